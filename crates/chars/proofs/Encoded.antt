@@ -1,0 +1,45 @@
+-- The characters of an encoded list of scalar values are those values, and it has no bad byte: the definition of `chars` is RFC 3629's.
+-- Assumes nothing.
+use mathlib.Core.Path.{_≡_, refl, sym, ap, _∙_}
+use mathlib.Core.Bool.{Bool, true, false, cond, _&&_}
+use mathlib.Core.Option.{Option, none}
+use mathlib.Core.List.{List, [], _∷_, _++_}
+use Prim.Native.Nat.{ℕ, zero, suc, _+_, _-_, _≤_, _<_}
+use native.Mathlib.Omega.{arith}
+use lib.Dec.{ltb}
+use lib.ListN.{length, drop}
+use lib.Seq.{drop-append-seam}
+use Rattle.chars.specs.Utf8.{front, char, chars, charsFrom, badFrom, firstBad, isScalar, encode, encodeAll, allScalars}
+use Rattle.chars.proofs.Bytes.{and-l, and-r}
+use Rattle.chars.proofs.Scalars.{read-back}
+use Rattle.chars.proofs.Stepping.{front-chars, front-bad}
+
+encode-some : (s : ℕ) → 0 < length (encode s)
+unfolding encode
+encode-some s = go (ltb s 0x80) (ltb s 0x800) (ltb s 0x10000) refl refl refl
+  where
+    go : (p q r : Bool) → ltb s 0x80 ≡ p → ltb s 0x800 ≡ q → ltb s 0x10000 ≡ r → 0 < length (encode s)
+    go true q r p1 p2 p3 = simp p1 (omega arith)
+    go false true r p1 p2 p3 = simp (p1, p2) (omega arith)
+    go false false true p1 p2 p3 = simp (p1, p2, p3) (omega arith)
+    go false false false p1 p2 p3 = simp (p1, p2, p3) (omega arith)
+
+pub chars-encoded : (ss : List ℕ) → allScalars ss ≡ true → chars (encodeAll ss) ≡ ss
+unfolding encodeAll allScalars
+chars-encoded [] e = unfold chars charsFrom in refl
+chars-encoded (s ∷ ss) e =
+    let n : suc (length (encode s) - 1) ≡ length (encode s) = omega (arith, encode-some s) in
+    front-chars (encode s ++ encodeAll ss) s (length (encode s) - 1) (read-back s (encodeAll ss) (and-l (isScalar s) (allScalars ss) e))
+    ∙ rw (n, drop-append-seam (encode s) (encodeAll ss)) (ap (λ (l : List ℕ). s ∷ l) (chars-encoded ss (and-r (isScalar s) (allScalars ss) e)))
+
+valid-from : (at : ℕ) (ss : List ℕ) → allScalars ss ≡ true → badFrom 0 at (encodeAll ss) ≡ none
+unfolding encodeAll allScalars
+valid-from at [] e = unfold badFrom in refl
+valid-from at (s ∷ ss) e =
+    let n : suc (length (encode s) - 1) ≡ length (encode s) = omega (arith, encode-some s) in
+    front-bad at (encode s ++ encodeAll ss) s (length (encode s) - 1) (read-back s (encodeAll ss) (and-l (isScalar s) (allScalars ss) e))
+    ∙ rw (n, drop-append-seam (encode s) (encodeAll ss)) (valid-from (at + length (encode s)) ss (and-r (isScalar s) (allScalars ss) e))
+
+pub encoded-valid : (ss : List ℕ) → allScalars ss ≡ true → firstBad (encodeAll ss) ≡ none
+unfolding firstBad
+encoded-valid ss e = valid-from 0 ss e

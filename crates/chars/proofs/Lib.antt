@@ -1,0 +1,8 @@
+pub mod Bytes
+pub mod Joining
+pub mod Scalars
+pub mod Stepping
+pub mod Encoded
+pub mod Whole
+pub mod Halving
+mod Examples
