@@ -1,0 +1,6 @@
+pub mod Kinds
+pub mod Slots
+pub mod Formed
+pub mod Content
+pub mod Answers
+pub mod Texts
