@@ -1,6 +1,8 @@
+pub mod Arms
 pub mod Forms
 pub mod Places
 pub mod Storing
 pub mod Parts
 pub mod Back
+pub mod Rows
 mod Examples

@@ -4,3 +4,4 @@ pub mod Formed
 pub mod Content
 pub mod Answers
 pub mod Texts
+pub mod Fixed

@@ -6,3 +6,4 @@ pub mod kind;
 pub mod place;
 pub mod refusal;
 pub mod slot;
+pub mod texts;
