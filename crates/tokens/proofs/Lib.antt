@@ -4,5 +4,6 @@ pub mod Places
 pub mod Storing
 pub mod Parts
 pub mod Back
+pub mod Checking
 pub mod Rows
 mod Examples

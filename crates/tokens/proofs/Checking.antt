@@ -1,0 +1,95 @@
+-- The checks by facts of numbers: which answer each gives.
+-- verdict-valid, verdict-bad         what the verdict of the code says of the first bad byte
+-- text-long, text-within             checkText
+-- text-passes                        it finds nothing: the length is within the limit and no byte is bad
+-- count-over, count-whole, count-fine, count-passes   checkCount
+-- form-bad, form-fine, form-passes   checkForm
+-- Assumes nothing.
+use mathlib.Core.Path.{_≡_, refl, sym, ap, _∙_}
+use mathlib.Core.Bool.{Bool, true, false, cond, _||_, or-true}
+use mathlib.Core.List.{List, []}
+use mathlib.Core.Option.{Option, none, some}
+use Prim.Native.Nat.{ℕ, _≤_, _<_}
+use native.Mathlib.Omega.{arith}
+use lib.Dec.{ltb}
+use lib.ListN.{length}
+use borrow.Author.Tests.{lt-ltb, le-ltb, ltb-true, ltb-false}
+use Rattle.chars.specs.Utf8.{firstBad}
+use Rattle.chars.specs.Steps.{offset, verdictOf}
+use Rattle.chars.specs.declared.offset.Offset.{Offset}
+use Rattle.chars.specs.declared.utf8.Verdict.the-variants.{Valid, BadAt}
+use Rattle.tokens.specs.declared.slot.Slot.{Slot}
+use Rattle.tokens.specs.Answers.{Answer, done, refused, limit, textTooLong, notUtf8, badCount, badToken}
+use Rattle.tokens.specs.Slots.{room}
+use Rattle.tokens.specs.Formed.{firstPlace, malformed}
+use Rattle.tokens.specs.Checks.{checkText, checkCount, checkForm, validity, fine}
+
+pub clash : {A : Type 0} → _≡_ {A = ℕ} 0 1 → A
+clash e = absurd (omega arith)
+
+-- what the verdict of the code says of the first bad byte
+pub verdict-valid : (o : Option ℕ) → verdictOf o ≡ Valid → fine ≡ validity o
+verdict-valid none e = refl
+verdict-valid (some at) e = clash (cc)
+
+pub verdict-bad : (o : Option ℕ) (at : Offset) → verdictOf o ≡ BadAt at → notUtf8 (at .0) ≡ validity o
+verdict-bad none at e = clash (cc)
+verdict-bad (some n) at e = let f : offset n ≡ at = cc in ap (λ (x : Offset). notUtf8 (x .0)) (sym f)
+
+module _ (text : List ℕ) where
+  pub text-long : limit < length text → checkText text ≡ textTooLong (length text)
+  unfolding checkText
+  text-long h = simp (lt-ltb limit (length text) h)
+
+  pub text-within : length text ≤ limit → checkText text ≡ validity (firstBad text)
+  unfolding checkText
+  text-within h = simp (le-ltb limit (length text) h)
+
+  pub text-passes : checkText text ≡ fine → (length text ≤ limit) × (firstBad text ≡ none)
+  unfolding checkText
+  text-passes e = go (ltb limit (length text)) (firstBad text) refl refl e
+    where
+      go : (b : Bool) (o : Option ℕ) → ltb limit (length text) ≡ b → firstBad text ≡ o
+          → cond b (textTooLong (length text)) (validity o) ≡ fine → (length text ≤ limit) × (firstBad text ≡ none)
+      go true o p q f = clash (cc)
+      go false none p q f = (ltb-false limit (length text) p, q)
+      go false (some at) p q f = clash (cc)
+
+module _ (ws : List ℕ) (n : ℕ) where
+  pub count-over : limit < n → checkCount ws n ≡ badCount (room ws)
+  unfolding checkCount
+  count-over h = simp (lt-ltb limit n h)
+
+  pub count-whole : room ws < n → checkCount ws n ≡ badCount (room ws)
+  unfolding checkCount
+  count-whole h = simp (lt-ltb (room ws) n h, or-true)
+
+  pub count-fine : n ≤ limit → n ≤ room ws → checkCount ws n ≡ fine
+  unfolding checkCount
+  count-fine h g = simp (le-ltb limit n h, le-ltb (room ws) n g)
+
+  pub count-passes : checkCount ws n ≡ fine → (n ≤ limit) × (n ≤ room ws)
+  unfolding checkCount
+  count-passes e = go (ltb limit n) (ltb (room ws) n) refl refl e
+    where
+      go : (a b : Bool) → ltb limit n ≡ a → ltb (room ws) n ≡ b → cond (a || b) (badCount (room ws)) fine ≡ fine → (n ≤ limit) × (n ≤ room ws)
+      go true b p q f = clash (cc)
+      go false true p q f = clash (cc)
+      go false false p q f = (ltb-false limit n p, ltb-false (room ws) n q)
+
+module _ (ts : List Slot) where
+  pub form-bad : firstPlace malformed ts < length ts → checkForm ts ≡ badToken (firstPlace malformed ts)
+  unfolding checkForm
+  form-bad h = simp (lt-ltb (firstPlace malformed ts) (length ts) h)
+
+  pub form-fine : length ts ≤ firstPlace malformed ts → checkForm ts ≡ fine
+  unfolding checkForm
+  form-fine h = simp (le-ltb (firstPlace malformed ts) (length ts) h)
+
+  pub form-passes : checkForm ts ≡ fine → length ts ≤ firstPlace malformed ts
+  unfolding checkForm
+  form-passes e = go (ltb (firstPlace malformed ts) (length ts)) refl e
+    where
+      go : (b : Bool) → ltb (firstPlace malformed ts) (length ts) ≡ b → cond b (badToken (firstPlace malformed ts)) fine ≡ fine → length ts ≤ firstPlace malformed ts
+      go true p f = clash (cc)
+      go false p f = ltb-false (firstPlace malformed ts) (length ts) p
