@@ -12,19 +12,19 @@ use Rattle.chars.specs.Utf8.{Front, front, char, bad, end, onFront, foll
 use Rattle.chars.proofs.Bytes.{follows-range}
 use Rattle.chars.proofs.Scalars.{clash, joined-below, Ranged, ranged-is}
 
-encode-1 : (s : ℕ) → s < 0x80 → encode s ≡ s ∷ []
+pub encode-1 : (s : ℕ) → s < 0x80 → encode s ≡ s ∷ []
 unfolding encode
 encode-1 s h = simp (lt-ltb s 0x80 h)
 
-encode-2 : (s : ℕ) → 0x80 ≤ s → s < 0x800 → encode s ≡ (0xC0 + s / 64) ∷ ((0x80 + s % 64) ∷ [])
+pub encode-2 : (s : ℕ) → 0x80 ≤ s → s < 0x800 → encode s ≡ (0xC0 + s / 64) ∷ ((0x80 + s % 64) ∷ [])
 unfolding encode
 encode-2 s l h = simp (le-ltb s 0x80 l, lt-ltb s 0x800 h)
 
-encode-3 : (s : ℕ) → 0x800 ≤ s → s < 0x10000 → encode s ≡ (0xE0 + s / 4096) ∷ ((0x80 + s / 64 % 64) ∷ ((0x80 + s % 64) ∷ []))
+pub encode-3 : (s : ℕ) → 0x800 ≤ s → s < 0x10000 → encode s ≡ (0xE0 + s / 4096) ∷ ((0x80 + s / 64 % 64) ∷ ((0x80 + s % 64) ∷ []))
 unfolding encode
 encode-3 s l h = let k : 0x80 ≤ s = omega arith in simp (le-ltb s 0x80 k, le-ltb s 0x800 l, lt-ltb s 0x10000 h)
 
-encode-4 : (s : ℕ) → 0x10000 ≤ s → encode s ≡ (0xF0 + s / 262144) ∷ ((0x80 + s / 4096 % 64) ∷ ((0x80 + s / 64 % 64) ∷ ((0x80 + s % 64) ∷ [])))
+pub encode-4 : (s : ℕ) → 0x10000 ≤ s → encode s ≡ (0xF0 + s / 262144) ∷ ((0x80 + s / 4096 % 64) ∷ ((0x80 + s / 64 % 64) ∷ ((0x80 + s % 64) ∷ [])))
 unfolding encode
 encode-4 s l =
     let k : 0x80 ≤ s = omega arith in

@@ -4,6 +4,9 @@
 -- text-passes                        it finds nothing: the length is within the limit and no byte is bad
 -- count-over, count-whole, count-fine, count-passes   checkCount
 -- form-bad, form-fine, form-passes   checkForm
+-- then-assoc                         checks one after the other
+-- list-passes                        checkCount and checkForm find nothing
+-- refusal-then, refusal-after        after a refusal nothing is checked and nothing written
 -- Assumes nothing.
 use mathlib.Core.Path.{_≡_, refl, sym, ap, _∙_}
 use mathlib.Core.Bool.{Bool, true, false, cond, _||_, or-true}
@@ -19,10 +22,12 @@ use Rattle.chars.specs.Steps.{offset, verdictOf}
 use Rattle.chars.specs.declared.offset.Offset.{Offset}
 use Rattle.chars.specs.declared.utf8.Verdict.the-variants.{Valid, BadAt}
 use Rattle.tokens.specs.declared.slot.Slot.{Slot}
-use Rattle.tokens.specs.Answers.{Answer, done, refused, limit, textTooLong, notUtf8, badCount, badToken}
+use Rattle.tokens.specs.declared.refusal.Refusal.{Refusal}
+use Rattle.tokens.specs.declared.refusal.Refusal.the-variants.{TextTooLong, NotUtf8, NoRoomTokens, BadCount, BadToken, CutChar, NoRoomOut}
+use Rattle.tokens.specs.Answers.{Answer, done, refused, limit, refusal, textTooLong, notUtf8, badCount, badToken}
 use Rattle.tokens.specs.Slots.{room}
 use Rattle.tokens.specs.Formed.{firstPlace, malformed}
-use Rattle.tokens.specs.Checks.{checkText, checkCount, checkForm, validity, fine}
+use Rattle.tokens.specs.Checks.{_then_, checkText, checkCount, checkForm, validity, fine, afterwards}
 
 pub clash : {A : Type 0} → _≡_ {A = ℕ} 0 1 → A
 clash e = absurd (omega arith)
@@ -93,3 +98,37 @@ module _ (ts : List Slot) where
       go : (b : Bool) → ltb (firstPlace malformed ts) (length ts) ≡ b → cond b (badToken (firstPlace malformed ts)) fine ≡ fine → length ts ≤ firstPlace malformed ts
       go true p f = clash (cc)
       go false p f = ltb-false (firstPlace malformed ts) (length ts) p
+
+-- ---- checks one after the other
+pub then-assoc : (a b c : Answer) → ((a then b) then c) ≡ (a then b then c)
+then-assoc (done ns) b c = refl
+then-assoc (refused k d) b c = refl
+
+pub list-passes : (ws : List ℕ) (n : ℕ) (ts : List Slot) → (checkCount ws n then checkForm ts) ≡ fine
+    → (n ≤ limit) × (n ≤ room ws) × (length ts ≤ firstPlace malformed ts)
+unfolding checkCount
+list-passes ws n ts e = go (ltb limit n) (ltb (room ws) n) refl refl e
+  where
+    go : (a b : Bool) → ltb limit n ≡ a → ltb (room ws) n ≡ b → (cond (a || b) (badCount (room ws)) fine then checkForm ts) ≡ fine
+        → (n ≤ limit) × (n ≤ room ws) × (length ts ≤ firstPlace malformed ts)
+    go true b p q f = clash (cc)
+    go false true p q f = clash (cc)
+    go false false p q f = (ltb-false limit n p, ltb-false (room ws) n q, form-passes ts f)
+
+pub refusal-then : (r : Refusal) (next : Answer) → (refusal r then next) ≡ refusal r
+refusal-then (TextTooLong n) next = refl
+refusal-then (NotUtf8 at) next = refl
+refusal-then (NoRoomTokens n) next = refl
+refusal-then (BadCount n) next = refl
+refusal-then (BadToken p) next = refl
+refusal-then (CutChar p) next = refl
+refusal-then (NoRoomOut n) next = refl
+
+pub refusal-after : (r : Refusal) (w b : List ℕ) → afterwards (refusal r) w b ≡ b
+refusal-after (TextTooLong n) w b = refl
+refusal-after (NotUtf8 at) w b = refl
+refusal-after (NoRoomTokens n) w b = refl
+refusal-after (BadCount n) w b = refl
+refusal-after (BadToken p) w b = refl
+refusal-after (CutChar p) w b = refl
+refusal-after (NoRoomOut n) w b = refl
