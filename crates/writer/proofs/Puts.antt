@@ -38,11 +38,11 @@ module _ {out : List ℕ} {at : ℕ} {s t : List ℕ} {r r' : ℕ} {out' out'' :
             q .left
             ∙ ap (λ (l : List ℕ). l ++ t ++ drop (r + length t) out') (ap (take r) (p .left) ∙ take-at (take at out ++ s) (drop (at + length s) out) r e)
             ∙ ap (λ (l : List ℕ). take at out ++ s ++ t ++ l)
-                (ap (drop (r + length t)) (p .left)
-                ∙ ap (λ (k : ℕ). drop (k + length t) (take at out ++ s ++ drop (at + length s) out)) (sym e)
-                ∙ drop-append-add (take at out ++ s) (drop (at + length s) out) (length t)
-                ∙ drop-drop (length t) (at + length s) out
-                ∙ ap (λ (k : ℕ). drop k out) (add-assoc at (length s) (length t) ∙ ap (λ (k : ℕ). at + k) (sym (length-append s t))))
+            (ap (drop (r + length t)) (p .left)
+            ∙ ap (λ (k : ℕ). drop (k + length t) (take at out ++ s ++ drop (at + length s) out)) (sym e)
+            ∙ drop-append-add (take at out ++ s) (drop (at + length s) out) (length t)
+            ∙ drop-drop (length t) (at + length s) out
+            ∙ ap (λ (k : ℕ). drop k out) (add-assoc at (length s) (length t) ∙ ap (λ (k : ℕ). at + k) (sym (length-append s t))))
             ∙ ap (λ (l : List ℕ). l ++ drop (at + length (s ++ t)) out) (append-assoc (take at out) s t);
       }
 

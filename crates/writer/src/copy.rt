@@ -45,5 +45,14 @@ pub fn put_char(out: &mut [u8], at: usize, c: u32) -> usize
     if c < 0x10000 {
         return put(out, at, &[(0xE0 + c / 4096) as u8, third, last]);
     }
-    put(out, at, &[(0xF0 + c / 262144) as u8, (0x80 + c / 4096 % 64) as u8, third, last])
+    put(
+        out,
+        at,
+        &[
+            (0xF0 + c / 262144) as u8,
+            (0x80 + c / 4096 % 64) as u8,
+            third,
+            last,
+        ],
+    )
 }

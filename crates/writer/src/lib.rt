@@ -1,14 +1,14 @@
 // The writer: a token list over its statement, as text. In the Rust, writer.rs; document 01, "writer.rs".
 // The whole text is measured first, and the lent buffer is filled only if it fits.
+use crate::cut::first_cut;
+use crate::token::put_token;
+use crate::token::token_len;
 use tokens::check::Checked;
 use tokens::check::check_list;
 use tokens::check::check_text;
 use tokens::place::Place;
 use tokens::refusal::Refusal;
 use tokens::slot::slot_at;
-use crate::cut::first_cut;
-use crate::token::put_token;
-use crate::token::token_len;
 ghost use mathlib.Core.Path.{_≡_};
 ghost use Prim.Native.Nat.{_≤_};
 ghost use lib.ListN.{length};

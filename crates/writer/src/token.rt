@@ -1,13 +1,13 @@
 // The text of one token: its length, and its bytes. The arms of writer.rs, by the groups of kinds that are written alike.
+use crate::copy::put;
+use crate::copy::put_char;
+use crate::copy::put_fixed;
 use chars::offset::Offset;
 use chars::utf8::width_of;
 use tokens::content::buffer_content;
 use tokens::kind;
 use tokens::slot::Slot;
 use tokens::texts::fixed_text;
-use crate::copy::put;
-use crate::copy::put_char;
-use crate::copy::put_fixed;
 ghost use mathlib.Core.Bool.{true};
 ghost use mathlib.Core.List.{_++_};
 ghost use mathlib.Core.Path.{_≡_};

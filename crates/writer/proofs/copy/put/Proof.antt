@@ -38,11 +38,13 @@ loop-less c = omega arith
 loop-again : tie.Need-loop-again Inv-loop μ-loop
 loop-again c =
     let l = c .before .before .loop in
-    let a = c .before .before .before .args in
-    (omega arith, length-set (l .out) (a .at + l .j) _ ∙ l .inv .1,
+    let a = c .before .before .before .args in (
+      omega arith,
+      length-set (l .out) (a .at + l .j) _ ∙ l .inv .1,
       ap (λ (o : List ℕ). set o (a .at + l .j) (getD (a .src .now) (l .j) 0)) (l .inv .2)
-        ∙ paste-suc (a .out .now) (a .at) (a .src .now) (l .j) 0 (omega arith) (omega arith)
-        ∙ ap (λ (k : ℕ). paste (a .out .now) (a .at) (a .src .now) k) (sym (add-one (l .j))))
+          ∙ paste-suc (a .out .now) (a .at) (a .src .now) (l .j) 0 (omega arith) (omega arith)
+          ∙ ap (λ (k : ℕ). paste (a .out .now) (a .at) (a .src .now) k) (sym (add-one (l .j))),
+    )
 
 add-result : tie.Need-add-result Inv-loop μ-loop
 add-result c = omega arith
