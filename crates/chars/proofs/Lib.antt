@@ -5,4 +5,5 @@ pub mod Stepping
 pub mod Encoded
 pub mod Whole
 pub mod Halving
+pub mod Ascii
 mod Examples
