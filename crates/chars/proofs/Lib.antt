@@ -4,6 +4,7 @@ pub mod Scalars
 pub mod Stepping
 pub mod Encoded
 pub mod Whole
+pub mod Rfc
 pub mod Halving
 pub mod Ascii
 mod Examples
