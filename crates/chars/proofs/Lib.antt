@@ -5,6 +5,7 @@ pub mod Stepping
 pub mod Encoded
 pub mod Whole
 pub mod Rfc
+pub mod Verdicts
 pub mod Halving
 pub mod Ascii
 mod Examples
