@@ -1,7 +1,10 @@
 pub mod Bytes
 pub mod Joining
+pub mod Fronts
 pub mod Scalars
 pub mod Stepping
+pub mod Sizes
+mod Gathered
 pub mod Encoded
 pub mod Whole
 pub mod Rfc

@@ -128,7 +128,7 @@ ranged-some n least (some s) e = go (leb least s && isScalar s) e
     go true q = clash (cc)
     go false q = clash (cc)
 
-front-some : (a : ℕ) (l : List ℕ) → front (a ∷ l) ≡ end → ⊥
+pub front-some : (a : ℕ) (l : List ℕ) → front (a ∷ l) ≡ end → ⊥
 unfolding front
 front-some a l e = go (ltb a 0x80) (ltb a 0xC0) (ltb a 0xE0) (ltb a 0xF0) (ltb a 0xF8) e
   where
