@@ -10,5 +10,5 @@ pub mod Whole
 pub mod Rfc
 pub mod Verdicts
 pub mod Halving
-pub mod Ascii
+pub mod Spelled
 mod Examples

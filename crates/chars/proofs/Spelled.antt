@@ -1,7 +1,9 @@
--- The classes below U+0080, spelled out: A to Z and a to z; 0 to 9. Each is computed from the table, once.
+-- Parts of the classes that the code spells out, each computed from the table once: below U+0080, A to Z and a to z, and 0 to 9;
+-- and the long ranges of common scripts.
 -- upper, lower     a letter is alphabetic
 -- no-letter        no other character below U+0080 is
 -- digit, no-digit  the same of 0 to 9 and numeric
+-- common           a range that one pair of the alphabetic table covers, by a computed test, is alphabetic
 -- Assumes nothing.
 use mathlib.Core.Path.{_≡_, refl, sym, _∙_}
 use mathlib.Core.Bool.{Bool, true, false, _&&_, _||_}
@@ -10,7 +12,7 @@ use lib.Dec.{leb}
 use Rattle.chars.specs.Table.{meetsFrom}
 use Rattle.chars.specs.Pairs.{alphabeticPairs, numericPairs}
 use Rattle.chars.specs.Class.{alphabetic, numeric}
-use Rattle.chars.proofs.Halving.{ascii-one, ascii-two, inside, out}
+use Rattle.chars.proofs.Halving.{ascii-one, ascii-two, inside, out, covers, within-covered}
 
 module _ (c : ℕ) (h : c < 0x80) where
   letters : ((leb 0x41 c && leb c 0x5A) || (leb 0x61 c && leb c 0x7A)) ≡ alphabetic c
@@ -35,3 +37,7 @@ module _ (c : ℕ) (h : c < 0x80) where
 
   pub no-digit : (0x30 ≤ c → c ≤ 0x39 → ⊥) → false ≡ numeric c
   no-digit f = rw (← digits) (simp (out 0x30 0x39 c f))
+
+pub common : (f l c : ℕ) → covers alphabeticPairs f l ≡ true → f ≤ c → c ≤ l → alphabetic c ≡ true
+unfolding alphabetic
+common f l c e p q = within-covered alphabeticPairs f l c e p q
