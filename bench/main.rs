@@ -1,4 +1,5 @@
 // Times of the proved code beside Rust's own, on the same input, in one process; `tools/bench` builds and runs it. No test.
+#[allow(dead_code)]
 #[path = "../compare/src/ours.rs"]
 mod ours;
 
@@ -36,15 +37,6 @@ fn texts() -> Vec<(&'static str, String)> {
     ]
 }
 
-fn walk(text: &[u8]) -> u32 {
-    let (mut at, mut sum) = (0, 0u32);
-    while let ours::Step::Char(scalar, next) = ours::step(text, at) {
-        sum = sum.wrapping_add(scalar);
-        at = next;
-    }
-    sum
-}
-
 fn main() {
     println!("| ns a byte | ours, best | median | Rust, best | median |\n|---|---|---|---|---|");
     for (name, text) in texts() {
@@ -56,9 +48,23 @@ fn main() {
     }
     for (name, text) in texts() {
         let bytes = text.as_bytes();
-        let ours = time(bytes.len(), || walk(black_box(bytes)));
+        let ours = time(bytes.len(), || ours::count(black_box(bytes)));
+        let rust = time(bytes.len(), || black_box(&text).chars().filter(|c| black_box(*c) != '\u{10FFFF}').count());
+        line(&format!("step, counting, {name}"), ours, rust);
+    }
+    // each step a call from outside, where nothing is inlined
+    for (name, text) in texts() {
+        let bytes = text.as_bytes();
+        let ours = time(bytes.len(), || {
+            let (mut at, mut sum) = (0, 0u32);
+            while let ours::Step::Char(scalar, next) = ours::step(black_box(bytes), at) {
+                sum = sum.wrapping_add(scalar);
+                at = next;
+            }
+            sum
+        });
         let rust = time(bytes.len(), || black_box(&text).chars().fold(0u32, |sum, c| sum.wrapping_add(c as u32)));
-        line(&format!("step, {name}"), ours, rust);
+        line(&format!("step, called from outside, {name}"), ours, rust);
     }
     println!("\n| ns a character | ours, best | median | Rust, best | median |\n|---|---|---|---|---|");
     for (name, text) in texts() {

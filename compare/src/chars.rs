@@ -132,6 +132,7 @@ fn random_texts(count: u64, seed: u64) -> u64 {
     let mut random = Random::new(seed);
     let mut validity = Report::new("random texts");
     let mut reading = Report::new("random texts, step by step");
+    let mut counting = Report::new("random texts, counted");
     let (mut text, mut ours, mut rust) = (Vec::new(), Vec::new(), Vec::new());
     let mut bad = 0;
     for turn in 0..count {
@@ -146,6 +147,7 @@ fn random_texts(count: u64, seed: u64) -> u64 {
         our_steps(&text, &mut ours);
         rust_steps(&text, &mut rust);
         reading.same(&ours, &rust, || hex(&text));
+        counting.same(ours::count(&text), rust.len() - 1, || hex(&text));
     }
-    validity.done(&format!("texts ({bad} of them not valid)")) + reading.done("texts")
+    validity.done(&format!("texts ({bad} of them not valid)")) + reading.done("texts") + counting.done("texts")
 }

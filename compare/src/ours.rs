@@ -15,6 +15,7 @@ extern "C" {
     fn hay_is_numeric(c: u32) -> bool;
     fn hay_valid_up_to(text: *const u8, len: usize) -> usize;
     fn hay_step(text: *const u8, len: usize, at: usize) -> HayStep;
+    fn hay_count(text: *const u8, len: usize) -> usize;
 }
 
 #[derive(PartialEq, Eq, Debug, Clone, Copy)]
@@ -44,4 +45,8 @@ pub fn step(text: &[u8], at: usize) -> Step {
         2 => Step::End,
         other => panic!("a step with status {other}"),
     }
+}
+
+pub fn count(text: &[u8]) -> usize {
+    unsafe { hay_count(text.as_ptr(), text.len()) }
 }
