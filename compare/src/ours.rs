@@ -1,4 +1,4 @@
-// The proved functions of crates/chars_c, linked from the static library, behind safe wrappers.
+// The proved functions of crates/chars_c and crates/chars_b, linked from their static libraries, behind safe wrappers.
 // A Rattle `&[u8]` goes over as its address and its length.
 
 // As chars_c declares it.
@@ -15,6 +15,10 @@ extern "C" {
     fn hay_is_numeric(c: u32) -> bool;
     fn hay_valid_up_to(text: *const u8, len: usize) -> usize;
     fn hay_step(text: *const u8, len: usize, at: usize) -> HayStep;
+}
+
+#[link(name = "chars_b", kind = "static")]
+extern "C" {
     fn hay_count(text: *const u8, len: usize) -> usize;
 }
 

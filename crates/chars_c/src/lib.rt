@@ -3,7 +3,7 @@ use chars::offset::Offset;
 ghost use mathlib.Core.Path.{_≡_};
 ghost use lib.ListN.{length};
 ghost use Rattle.chars.specs.Class.{alphabetic, numeric};
-ghost use Rattle.chars.specs.Utf8.{chars, firstBad};
+ghost use Rattle.chars.specs.Utf8.{firstBad};
 ghost use Rattle.chars.specs.Steps.{stepAt, offset};
 ghost use Rattle.chars_c.specs.Outside.{upTo, numbers};
 
@@ -64,29 +64,4 @@ pub extern "C" fn hay_step(text: &[u8], at: usize) -> HayStep
             next: 0,
         },
     }
-}
-
-// How many characters a text has, up to its first bad byte: the step in a loop, for its time.
-#[no_mangle]
-pub extern "C" fn hay_count(text: &[u8]) -> usize
-    ensures { λ r. ⌜ r ≡ length (chars (now (text .entry))) ⌝ }
-{
-    let mut count = 0;
-    let mut at = 0;
-    while at < text.len() {
-        let step = chars::utf8::step_at(text, Offset(at));
-        match step {
-            chars::utf8::Step::Char(_, next) => {
-                at = next.0;
-                count += 1;
-            }
-            chars::utf8::Step::Bad => {
-                return count;
-            }
-            chars::utf8::Step::End => {
-                return count;
-            }
-        }
-    }
-    count
 }

@@ -1,4 +1,4 @@
--- `chars_c::hay_count` meets its contract. The invariant, `Counting`: the characters passed and those to come are all of them.
+-- `chars_b::hay_count` meets its contract. The invariant, `Counting`: the characters passed and those to come are all of them.
 -- Assumes nothing.
 use mathlib.Core.Path.{sym, _∙_}
 use mathlib.Core.Logic.{inl, inr}
@@ -8,9 +8,9 @@ use borrow.Author.Needs.{needs}
 use lib.ListN.{length}
 use denote.Ref.{now}
 use Rattle.chars.proofs.Stepping.{Stepped, stepped, stepped-none, step-end}
-use Rattle.chars_c.proofs.Counting.{Counting, counting-start, counting-on, counting-done}
-use Rattle.chars_c.proofs.hay_count.Statement.{statement}
-use Rattle.chars_c.proofs.hay_count.Tie as tie
+use Rattle.chars_b.proofs.Counting.{Counting, counting-start, counting-on, counting-done}
+use Rattle.chars_b.proofs.hay_count.Statement.{statement}
+use Rattle.chars_b.proofs.hay_count.Tie as tie
 
 abbrev Inv-loop : tie.InvT-loop
 Inv-loop text count₀ at₀ count at = Counting text count at
