@@ -1,18 +1,22 @@
 -- Following bytes, joined one by one: what the loop of `sequence` keeps, and the shifts and masks that join.
+-- join-bits                                  the shift, the mask and the or of one turn
+-- drop-at                                    a text from an offset on is its byte there and the rest
+-- joined-next, -short, -stray, -more         one following byte more, or none
+-- small-start, Joining, joining-more .. -done  the invariant: how it starts, goes on and ends
+-- answer-none .. answer-no-scalar            the answer from the joined bits
 -- Assumes nothing.
-use mathlib.Core.Path.{_≡_, refl, sym, ap, _∙_, subst}
-use mathlib.Core.Bool.{Bool, true, false, cond, _&&_, _||_}
+use mathlib.Core.Path.{_≡_, sym, ap, _∙_}
+use mathlib.Core.Bool.{true, false}
 use mathlib.Core.Option.{Option, none, some}
-use mathlib.Core.List.{List, [], _∷_}
-use Prim.Native.Nat.{ℕ, zero, suc, _+_, _-_, _*_, _/_, _%_, _^_, _≤_, _<_}
+use mathlib.Core.List.{List, _∷_}
+use Prim.Native.Nat.{ℕ, zero, suc, _+_, _-_, _*_, _%_, _^_, _≤_, _<_}
 use native.Mathlib.Numerals.{add-one}
 use native.Mathlib.Omega.{arith}
 use lib.Bits.{bitAnd, bitOr, and-mask, or-shifted}
-use lib.Dec.{leb, ltb}
 use lib.ListN.{length, getD, drop, drop-of-length-le}
 use lib.Seq.{drop-cons}
 use borrow.Author.Tests.{le-leb, lt-leb}
-use Rattle.chars.specs.Utf8.{follows, isScalar, joined, ranged, char, bad}
+use Rattle.chars.specs.Utf8.{follows, isScalar, joined, ranged}
 use Rattle.chars.specs.Steps.{scalarOf}
 use Rattle.chars.proofs.Bytes.{follows-range}
 

@@ -3,17 +3,16 @@
 -- size-one .. size-four  the size, by the lead byte, where the bytes after it follow and the value is in range
 -- size-none              0 where a byte is missing or does not follow; size-low where the lead byte is below 0xC2
 -- Assumes nothing.
-use mathlib.Core.Path.{_≡_, refl, sym, ap, _∙_}
+use mathlib.Core.Path.{_≡_, refl, ap, _∙_}
 use mathlib.Core.Bool.{Bool, true, false, cond, _&&_}
 use mathlib.Core.Option.{Option, none, some}
-use mathlib.Core.List.{List, [], _∷_}
-use mathlib.Core.Logic.{_⊎_, inl, inr}
-use Prim.Native.Nat.{ℕ, zero, suc, _+_, _-_, _*_, _≤_, _<_}
+use mathlib.Core.List.{List}
+use Prim.Native.Nat.{ℕ, suc, _+_, _-_, _*_, _≤_, _<_}
 use native.Mathlib.Omega.{arith}
 use lib.Dec.{leb, ltb, eqb}
 use lib.ListN.{length, getD, drop}
-use borrow.Author.Tests.{le-leb, lt-leb, lt-ltb, le-ltb, leb-true, leb-false, ltb-true, ltb-false, eqb-true, eqb-false, ne-eqb}
-use Rattle.chars.specs.Utf8.{Front, char, bad, end, follows, isScalar, joined, ranged, front}
+use borrow.Author.Tests.{le-leb, lt-leb, le-ltb, leb-true, leb-false, ltb-true, ltb-false, eqb-true, eqb-false, ne-eqb}
+use Rattle.chars.specs.Utf8.{Front, bad, follows, isScalar, joined, ranged, front}
 use Rattle.chars.specs.Steps.{sizeOf, fitsThree, fitsFour}
 use Rattle.chars.proofs.Bytes.{follows-range, scalar-low, scalar-between, scalar-high, scalar-beyond}
 use Rattle.chars.proofs.Scalars.{joined-below}

@@ -5,8 +5,8 @@
 -- digit, no-digit  the same of 0 to 9 and numeric
 -- common           a range that one pair of the alphabetic table covers, by a computed test, is alphabetic
 -- Assumes nothing.
-use mathlib.Core.Path.{_≡_, refl, sym, _∙_}
-use mathlib.Core.Bool.{Bool, true, false, _&&_, _||_}
+use mathlib.Core.Path.{_≡_, refl}
+use mathlib.Core.Bool.{true, false, _&&_, _||_}
 use Prim.Native.Nat.{ℕ, _≤_, _<_}
 use lib.Dec.{leb}
 use Rattle.chars.specs.Table.{meetsFrom}

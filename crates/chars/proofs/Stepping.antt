@@ -1,20 +1,25 @@
--- One step at an offset: what it is by the first byte, and what it tells of the text's characters and of its first bad byte.
+-- One step at an offset, and what it tells of the text's characters and of its first bad byte.
+-- step-end, step-ascii, step-bad, step-char   the step, from what the code finds at the offset
+-- front-fits                                  a character lies within the text
+-- front-chars, front-bad                      reading goes on after it
+-- Stepped, stepped                            all that a step to a character tells
+-- stepped-bad, stepped-end, stepped-none      what a step to none tells; checked-all the same past the end
+-- sized-on, sized-bad                         what a size tells of the first bad byte
+-- ascii-valid                                 a text of ASCII alone is valid
 -- Assumes nothing.
 use mathlib.Core.Path.{_≡_, refl, sym, ap, _∙_, subst}
-use mathlib.Core.Bool.{Bool, true, false, cond, _&&_, _||_}
+use mathlib.Core.Bool.{Bool, true, false, cond, _&&_}
 use mathlib.Core.Logic.{_⊎_, inl, inr}
 use mathlib.Core.Option.{Option, none, some}
 use mathlib.Core.List.{List, [], _∷_}
-use Prim.Native.Nat.{ℕ, zero, suc, _+_, _-_, _*_, _/_, _%_, _^_, _≤_, _<_, zero-le, suc-le-suc}
+use Prim.Native.Nat.{ℕ, zero, suc, _+_, _-_, _*_, _≤_, _<_, zero-le, suc-le-suc}
 use native.Mathlib.Nat.{add-zero}
-use native.Mathlib.Numerals.{add-one}
 use native.Mathlib.Omega.{arith}
 use lib.Dec.{leb, ltb}
 use lib.ListN.{length, getD, drop, drop-of-length-le, length-drop}
 use lib.Seq.{drop-drop}
-use borrow.Author.Tests.{le-leb, lt-leb, lt-ltb, le-ltb, leb-true, ltb-true}
+use borrow.Author.Tests.{lt-ltb}
 use Rattle.chars.specs.declared.offset.Offset.{Offset}
-use Rattle.chars.specs.declared.utf8.Step.{Step}
 use Rattle.chars.specs.declared.utf8.Step.the-variants.{Char, Bad, End}
 use Rattle.chars.specs.Utf8.{Front, char, bad, end, follows, isScalar, joined, ranged, front, onFront, chars, charsFrom, badFrom, firstBad, width, encode}
 use Rattle.chars.specs.Steps.{offset, placed, scalarOf, sizeOf, stepAt}

@@ -6,7 +6,6 @@ use mathlib.Core.Path.{_≡_, refl}
 use mathlib.Core.Option.{Option, none, some}
 use Prim.Native.Nat.{ℕ}
 use Rattle.chars.specs.declared.offset.Offset.{Offset}
-use Rattle.chars.specs.declared.utf8.Verdict.{Verdict}
 use Rattle.chars.specs.declared.utf8.Verdict.the-variants.{Valid, BadAt}
 use Rattle.chars.specs.Steps.{offset, verdictOf}
 use Rattle.chars.proofs.Scalars.{clash}

@@ -2,9 +2,9 @@
 -- Counting        those passed and those to come are all of them
 -- counting-start  none passed; counting-on one more; counting-done none to come
 -- Assumes nothing.
-use mathlib.Core.Path.{_≡_, refl, sym, ap, _∙_}
-use mathlib.Core.List.{List, [], _∷_}
-use Prim.Native.Nat.{ℕ, zero, suc, _+_, _≤_, zero-le}
+use mathlib.Core.Path.{_≡_, ap}
+use mathlib.Core.List.{List, []}
+use Prim.Native.Nat.{ℕ, _+_, _≤_, zero-le}
 use native.Mathlib.Omega.{arith}
 use lib.ListN.{length, drop}
 use Rattle.chars.specs.Utf8.{chars}

@@ -1,7 +1,6 @@
 -- What chars answers, as numbers for C and Rust to read. Assumes nothing.
 use Prim.Native.Nat.{ℕ}
 use mathlib.Core.Option.{Option, none, some}
-use Rattle.chars.specs.declared.offset.Offset.{Offset}
 use Rattle.chars.specs.declared.utf8.Step.{Step}
 use Rattle.chars.specs.declared.utf8.Step.the-variants.{Char, Bad, End}
 use Rattle.chars_c.specs.declared.HayStep.{HayStep}

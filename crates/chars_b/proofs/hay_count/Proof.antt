@@ -7,7 +7,7 @@ use native.Mathlib.Omega.{arith}
 use borrow.Author.Needs.{needs}
 use lib.ListN.{length}
 use denote.Ref.{now}
-use Rattle.chars.proofs.Stepping.{Stepped, stepped, stepped-none, step-end}
+use Rattle.chars.proofs.Stepping.{stepped, stepped-none, step-end}
 use Rattle.chars_b.proofs.Counting.{Counting, counting-start, counting-on, counting-done}
 use Rattle.chars_b.proofs.hay_count.Statement.{statement}
 use Rattle.chars_b.proofs.hay_count.Tie as tie

@@ -1,5 +1,4 @@
 -- `chars::utf8::any_bits` meets its contract: every byte passed is at most the bits gathered, and what `|` gives is at least either side. Assumes nothing.
-use mathlib.Core.Path.{_≡_}
 use Prim.Native.Nat.{ℕ, _≤_, _<_, _-_}
 use native.Mathlib.Omega.{arith}
 use lib.ListN.{length, getD}

@@ -4,7 +4,7 @@ use Prim.Native.Nat.{ℕ, _+_}
 use native.Mathlib.Omega.{arith}
 use Rattle.chars.specs.declared.utf8.Step.the-variants.{Char}
 use Rattle.chars.specs.Steps.{offset}
-use Rattle.chars.proofs.Stepping.{Stepped, stepped, step-end, step-ascii, step-bad, step-char}
+use Rattle.chars.proofs.Stepping.{stepped, step-end, step-ascii, step-bad, step-char}
 use borrow.Author.Needs.{needs}
 use Rattle.chars.proofs.utf8.step_at.Statement.{statement}
 use Rattle.chars.proofs.utf8.step_at.Tie as tie
