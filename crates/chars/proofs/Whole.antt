@@ -1,16 +1,20 @@
--- A valid text is the encoding of its characters. Assumes nothing.
-use mathlib.Core.Path.{_≡_, refl, sym, ap, _∙_, subst}
+-- A valid text is the encoding of its characters.
+-- written     a character that was read stands there as RFC 3629 writes it
+-- front-some  a text that has a byte has a front
+-- whole       a text with no bad byte is the encoding of its characters
+-- Assumes nothing.
+use mathlib.Core.Path.{_≡_, refl, sym, ap, _∙_}
 use mathlib.Core.Bool.{Bool, true, false, cond, _&&_}
 use mathlib.Core.Option.{Option, none, some}
 use mathlib.Core.List.{List, [], _∷_, _++_}
 use Prim.Native.Nat.{ℕ, zero, suc, _+_, _-_, _*_, _/_, _%_, _≤_, _<_}
 use native.Mathlib.Omega.{arith}
 use lib.Dec.{leb, ltb}
-use lib.ListN.{length, drop}
-use borrow.Author.Tests.{le-ltb, lt-ltb, leb-true, ltb-true, ltb-false}
+use lib.ListN.{drop}
+use borrow.Author.Tests.{le-ltb, lt-ltb, ltb-true, ltb-false}
 use Rattle.chars.specs.Utf8.{Front, front, char, bad, end, onFront, follows, isScalar, joined, ranged, encode, encodeAll, chars, charsFrom, badFrom, firstBad}
 use Rattle.chars.proofs.Bytes.{follows-range}
-use Rattle.chars.proofs.Scalars.{clash, joined-below, Ranged, ranged-is}
+use Rattle.chars.proofs.Scalars.{clash, joined-below, ranged-is}
 
 pub encode-1 : (s : ℕ) → s < 0x80 → encode s ≡ s ∷ []
 unfolding encode
@@ -128,7 +132,7 @@ ranged-some n least (some s) e = go (leb least s && isScalar s) e
     go true q = clash (cc)
     go false q = clash (cc)
 
-front-some : (a : ℕ) (l : List ℕ) → front (a ∷ l) ≡ end → ⊥
+pub front-some : (a : ℕ) (l : List ℕ) → front (a ∷ l) ≡ end → ⊥
 unfolding front
 front-some a l e = go (ltb a 0x80) (ltb a 0xC0) (ltb a 0xE0) (ltb a 0xF0) (ltb a 0xF8) e
   where
