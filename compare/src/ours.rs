@@ -1,4 +1,4 @@
-// The proved functions of crates/chars_c and crates/chars_b, linked from their static libraries, behind safe wrappers.
+// The proved functions of crates/chars_c, chars_b and sql_lexer_c, linked from their static libraries, behind safe wrappers.
 // A Rattle `&[u8]` goes over as its address and its length.
 
 // As chars_c declares it.
@@ -20,6 +20,33 @@ extern "C" {
 #[link(name = "chars_b", kind = "static")]
 extern "C" {
     fn hay_count(text: *const u8, len: usize) -> usize;
+}
+
+// As sql_lexer_c declares it: a refusal and its detail, or refusal 0 and the numbers that the call answers with.
+#[cfg_attr(not(rust_source), allow(dead_code))]
+#[repr(C)]
+#[derive(PartialEq, Eq, Debug, Clone, Copy, Default)]
+pub struct Answer {
+    pub refusal: u64,
+    pub detail: u64,
+    pub tokens: u64,
+    pub stop: u64,
+    pub exposed: u64,
+    pub length: u64,
+}
+
+// An answer of more than two words is written through a pointer that goes before the other arguments, as on x86-64. It is declared so and not
+// as a value returned, since the same module compiled for another processor (tools/archive) keeps that order.
+#[link(name = "sql_lexer_c", kind = "static")]
+extern "C" {
+    fn hay_write(answer: *mut Answer, text: *const u8, text_len: usize, slots: *const u32, words: usize, count: usize, out: *mut u8, out_len: usize);
+}
+
+#[cfg_attr(not(rust_source), allow(dead_code))]
+pub fn write(text: &[u8], slots: &[u32], count: usize, out: &mut [u8]) -> Answer {
+    let mut answer = Answer::default();
+    unsafe { hay_write(&mut answer, text.as_ptr(), text.len(), slots.as_ptr(), slots.len(), count, out.as_mut_ptr(), out.len()) };
+    answer
 }
 
 #[derive(PartialEq, Eq, Debug, Clone, Copy)]

@@ -35,3 +35,14 @@ impl Report {
 pub fn hex(bytes: &[u8]) -> String {
     bytes.iter().map(|byte| format!("{byte:02x}")).collect::<Vec<_>>().join(" ")
 }
+
+// Bytes that are compared whole and printed short.
+#[cfg_attr(not(rust_source), allow(dead_code))]
+#[derive(PartialEq)]
+pub struct Bytes(pub Vec<u8>);
+
+impl Debug for Bytes {
+    fn fmt(&self, f: &mut std::fmt::Formatter) -> std::fmt::Result {
+        write!(f, "{} bytes: {}", self.0.len(), hex(&self.0[..self.0.len().min(60)]))
+    }
+}
