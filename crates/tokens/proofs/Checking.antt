@@ -1,5 +1,4 @@
 -- The checks by facts of numbers: which answer each gives.
--- verdict-valid, verdict-bad         what the verdict of the code says of the first bad byte
 -- text-long, text-within             checkText
 -- text-passes                        it finds nothing: the length is within the limit and no byte is bad
 -- count-over, count-whole, count-fine, count-passes   checkCount
@@ -18,9 +17,7 @@ use lib.Dec.{ltb}
 use lib.ListN.{length}
 use borrow.Author.Tests.{lt-ltb, le-ltb, ltb-true, ltb-false}
 use Rattle.chars.specs.Utf8.{firstBad}
-use Rattle.chars.specs.Steps.{offset, verdictOf}
-use Rattle.chars.specs.declared.offset.Offset.{Offset}
-use Rattle.chars.specs.declared.utf8.Verdict.the-variants.{Valid, BadAt}
+use Rattle.chars.proofs.Scalars.{clash}
 use Rattle.tokens.specs.declared.slot.Slot.{Slot}
 use Rattle.tokens.specs.declared.refusal.Refusal.{Refusal}
 use Rattle.tokens.specs.declared.refusal.Refusal.the-variants.{TextTooLong, NotUtf8, NoRoomTokens, BadCount, BadToken, CutChar, NoRoomOut}
@@ -28,18 +25,6 @@ use Rattle.tokens.specs.Answers.{Answer, done, refused, limit, refusal, 
 use Rattle.tokens.specs.Slots.{room}
 use Rattle.tokens.specs.Formed.{firstPlace, malformed}
 use Rattle.tokens.specs.Checks.{_then_, checkText, checkCount, checkForm, validity, fine, afterwards}
-
-pub clash : {A : Type 0} → _≡_ {A = ℕ} 0 1 → A
-clash e = absurd (omega arith)
-
--- what the verdict of the code says of the first bad byte
-pub verdict-valid : (o : Option ℕ) → verdictOf o ≡ Valid → fine ≡ validity o
-verdict-valid none e = refl
-verdict-valid (some at) e = clash (cc)
-
-pub verdict-bad : (o : Option ℕ) (at : Offset) → verdictOf o ≡ BadAt at → notUtf8 (at .0) ≡ validity o
-verdict-bad none at e = clash (cc)
-verdict-bad (some n) at e = let f : offset n ≡ at = cc in ap (λ (x : Offset). notUtf8 (x .0)) (sym f)
 
 module _ (text : List ℕ) where
   pub text-long : limit < length text → checkText text ≡ textTooLong (length text)

@@ -2,7 +2,6 @@
 -- quoted-in, quoted-low, quoted-high   isQuoted by the ranges of the kinds
 -- text-quoted, -charset, -other, -slice, -unknown, -fixed   tokenText by the kind
 -- quote-one, charset-one   a quote and the mark of a charset are one byte
--- encode-length     a scalar value takes as many bytes as its width says
 -- len-quoted, -charset, -unknown   the length of a token's text by its kind
 -- content-small, token-small   how long a slice and a token's text can be
 -- formed-scalar     a well-formed Unknown holds at most U+10FFFF
@@ -17,7 +16,8 @@ use lib.Dec.{eqb, leb, ltb}
 use lib.ListN.{length, length-append, length-take, length-drop}
 use borrow.Author.Tests.{lt-ltb, le-ltb, le-leb, lt-leb, eq-eqb, ne-eqb, ltb-true, ltb-false, eqb-true}
 use Rattle.chars.specs.Utf8.{isScalar, encode, width}
-use Rattle.chars.proofs.Bytes.{and-l, scalar-beyond, width-1, width-2, width-3, width-4}
+use Rattle.chars.proofs.Bytes.{and-l, scalar-beyond}
+use Rattle.chars.proofs.Rfc.{width-encode}
 use Rattle.chars.proofs.Whole.{encode-1, encode-2, encode-3, encode-4}
 use Rattle.tokens.specs.declared.slot.Slot.{Slot}
 use Rattle.tokens.specs.Kinds as kind
@@ -111,14 +111,6 @@ content-small text a b =
     (below-or (length text) b))
     (below-or b a)
 
-pub encode-length : (c : ℕ) → width c ≡ length (encode c)
-encode-length c =
-    ⊎-elim (λ h. rw (encode-1 c h, ← width-1 c h))
-    (λ h. ⊎-elim (λ g. rw (encode-2 c h g, ← width-2 c h g))
-    (λ g. ⊎-elim (λ f. rw (encode-3 c g f, ← width-3 c g f)) (λ f. rw (encode-4 c f, ← width-4 c f)) (below-or c 0x10000))
-    (below-or c 0x800))
-    (below-or c 0x80)
-
 encode-small : (c : ℕ) → length (encode c) ≤ 4
 encode-small c =
     ⊎-elim (λ h. rw (encode-1 c h) (omega arith))
@@ -153,7 +145,7 @@ module _ (text : List ℕ) (t : Slot) where
   len-charset e = rw (text-charset text t e) (simp length-append (omega (arith, charset-one (t .kind) e)))
 
   pub len-unknown : t .kind ≡ kind.Unknown → width (t .first) ≡ length (tokenText text t)
-  len-unknown e = rw (text-unknown text t e) (encode-length (t .first))
+  len-unknown e = rw (text-unknown text t e) (width-encode (t .first))
 
 pub formed-scalar : (t : Slot) → wellFormed t ≡ true → t .kind ≡ kind.Unknown → t .first < 0x110000
 formed-scalar t e k = go (below-or (t .first) 0x110000)

@@ -1,7 +1,9 @@
 -- `tokens::check::check_text` meets its contract. Assumes nothing.
-use mathlib.Core.Path.{sym, _∙_}
+use mathlib.Core.Path.{sym, ap, _∙_}
 use Rattle.chars.specs.Utf8.{firstBad}
-use Rattle.tokens.proofs.Checking.{text-long, text-within, verdict-valid, verdict-bad}
+use Rattle.chars.proofs.Verdicts.{verdict-valid, verdict-bad}
+use Rattle.tokens.specs.Checks.{validity}
+use Rattle.tokens.proofs.Checking.{text-long, text-within}
 use borrow.Author.Needs.{needs}
 use Rattle.tokens.proofs.check.check_text.Statement.{statement}
 use Rattle.tokens.proofs.check.check_text.Tie as tie
@@ -21,12 +23,12 @@ enum-known-verdict c = search needs
 returns-2 : tie.Need-returns-2
 returns-2 c =
     let call = c .before .before in
-    verdict-valid (firstBad (call .before .before .before .args .text .now)) (sym (call .validate .ensures) ∙ c .enum-told .given .1) ∙ sym (text-within _ (call .before .if1 .left))
+    sym (ap validity (verdict-valid (firstBad (call .before .before .before .args .text .now)) (sym (call .validate .ensures) ∙ c .enum-told .given .1))) ∙ sym (text-within _ (call .before .if1 .left))
 
 returns-3 : tie.Need-returns-3
 returns-3 c =
     let call = c .before .before .before in
-    verdict-bad (firstBad (call .before .before .before .args .text .now)) _ (sym (call .validate .ensures) ∙ c .before .verdict .given .1) ∙ sym (text-within _ (call .before .if1 .left))
+    sym (ap validity (verdict-bad (firstBad (call .before .before .before .args .text .now)) _ (sym (call .validate .ensures) ∙ c .before .verdict .given .1))) ∙ sym (text-within _ (call .before .if1 .left))
 
 pub check-text-spec : {M : Type 1} → statement M
 check-text-spec =
