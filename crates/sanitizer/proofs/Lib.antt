@@ -3,3 +3,8 @@ pub mod Scanning
 pub mod Keeping
 pub mod Turning
 pub mod Counting
+pub mod Alike
+pub mod Unread
+pub mod Stepping
+pub mod Behind
+pub mod Ahead

@@ -7,6 +7,7 @@
 -- rows-end, -close, -open            the scan of the rows, inside and outside
 -- rows-inside                        inside
 -- rows-comma, -space, -stop          outside
+-- rowWays                            the cases of the rows' scan
 -- close-ge, rows-ge                  a scan's answer is at its place or later
 -- Assumes nothing.
 use mathlib.Core.Path.{_≡_, refl, sym, ap, _∙_}
@@ -137,17 +138,22 @@ close-ge (k ∷ ks) p = go (isClose k) (close-ge ks (suc p))
     go true h = omega arith
     go false h = omega arith
 
+-- the four ways of a row's token: a close, an open, inside, between rows; else the end
+abbrev pub rowWays : Bool → Bool → Bool → Bool → ℕ → ℕ → ℕ → ℕ → ℕ
+rowWays closes opens inside gap x y z e = cond closes x (cond opens y (cond inside y (cond gap z e)))
+
+ways-ge : (c d i l : Bool) {m x y z e : ℕ} → m ≤ x → m ≤ y → m ≤ z → m ≤ e → m ≤ rowWays c d i l x y z e
+ways-ge true d i l a b c h = a
+ways-ge false true i l a b c h = b
+ways-ge false false true l a b c h = b
+ways-ge false false false true a b c h = c
+ways-ge false false false false a b c h = h
+
 pub rows-ge : (ks : List ℕ) (b : Bool) (e p : ℕ) → e ≤ p → e ≤ rowsFrom b e p ks
 unfolding rowsFrom
 rows-ge [] b e p h = omega arith
 rows-ge (k ∷ ks) b e p h =
-    go (eqb k kind.ParentheseClose) (eqb k kind.ParentheseOpen) b (isGap k)
-    (rows-ge ks false (suc p) (suc p) (omega arith)) (rows-ge ks true (suc p) (suc p) (omega arith)) (rows-ge ks false e (suc p) (omega arith))
-  where
-    go : (c d i l : Bool) → suc p ≤ rowsFrom false (suc p) (suc p) ks → suc p ≤ rowsFrom true (suc p) (suc p) ks → e ≤ rowsFrom false e (suc p) ks
-        → e ≤ cond c (rowsFrom false (suc p) (suc p) ks) (cond d (rowsFrom true (suc p) (suc p) ks) (cond i (rowsFrom true (suc p) (suc p) ks) (cond l (rowsFrom false e (suc p) ks) e)))
-    go true d i l x y z = omega arith
-    go false true i l x y z = omega arith
-    go false false true l x y z = omega arith
-    go false false false true x y z = z
-    go false false false false x y z = omega arith
+    let x = rows-ge ks false (suc p) (suc p) (omega arith) in
+    let y = rows-ge ks true (suc p) (suc p) (omega arith) in
+    ways-ge (eqb k kind.ParentheseClose) (eqb k kind.ParentheseOpen) b (isGap k) (omega arith) (omega arith)
+    (rows-ge ks false e (suc p) (omega arith)) (omega arith)
