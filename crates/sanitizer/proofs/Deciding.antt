@@ -1,13 +1,15 @@
 -- The table's arms by one computed test over states and kinds.
 -- states, but            the numbers of some states, and of all others
 -- any-state              a state's number is one of the eleven
+-- test, tested           a test that the arm passes in each of some states for each kind of a range, but for some kinds
 -- decided                an arm that the table gives in each of some states for each kind of a range, but for some kinds
 -- decided-at             the same for one kind
 -- decided-rest           the same for the kinds that the `_` of a match leaves
+-- never                  an arm that no state has for any kind of a range, but for some kinds
 -- Assumes nothing.
 use mathlib.Core.Path.{_≡_, refl, sym, ap, subst, _∙_}
 use mathlib.Core.Logic.{_⊎_, inl, inr}
-use mathlib.Core.Bool.{Bool, true, false, _&&_, _||_, cond}
+use mathlib.Core.Bool.{Bool, true, false, _&&_, _||_, not, cond}
 use mathlib.Core.List.{List, [], _∷_}
 use Prim.Native.Nat.{ℕ, zero, suc, _+_, _-_, _≤_, _<_}
 use native.Mathlib.Decide.{ℕ-discrete}
@@ -16,7 +18,7 @@ use lib.Dec.{T, eqb, eqb→eq}
 use lib.ListN.{getD}
 use types.Run.{OneOf}
 use denote.Enum.Declared.{tagOf}
-use borrow.Author.Tests.{ne-eqb}
+use borrow.Author.Tests.{eq-eqb, ne-eqb}
 use Rattle.sanitizer.specs.declared.arms.State.{State}
 use Rattle.sanitizer.specs.declared.arms.State.the-variants.{Default, ComparisonOperator, InsertValues, InsertValuesJustClosed, JoinOn, Offset, Between, Keyword, KeywordScopeStarted, Array, ArrayStarted}
 use Rattle.sanitizer.specs.declared.arms.Arm.{Arm}
@@ -114,24 +116,39 @@ apart-among : (ys : List ℕ) (x : ℕ) → Apart ys x → among ys x ≡ false
 apart-among [] x h = refl
 apart-among (y ∷ ys) x h = ap (λ (b : Bool). b || among ys x) (ne-eqb x y (h .0)) ∙ apart-among ys x (h .1)
 
--- the table gives arm a for kind k in the state of a number, or k is one of ex
-abbrev right : List ℕ → ℕ → ℕ → ℕ → Bool
-right ex a n k = among ex k || eqb (armOf (stateAt n) k) a
+-- the arm for kind k in the state of a number passes the test, or k is one of ex
+abbrev right : (ℕ → Bool) → List ℕ → ℕ → ℕ → Bool
+right passes ex n k = among ex k || passes (armOf (stateAt n) k)
 
 -- and so in each state of a list, for each kind from lo to hi
-abbrev pub test : List ℕ → ℕ → ℕ → List ℕ → ℕ → Bool
-test ns lo hi ex a = allIn (λ n. allFrom (right ex a n) lo (suc hi - lo)) ns
+abbrev pub test : (ℕ → Bool) → List ℕ → ℕ → ℕ → List ℕ → Bool
+test passes ns lo hi ex = allIn (λ n. allFrom (right passes ex n) lo (suc hi - lo)) ns
 
-module _ (ns : List ℕ) (lo hi : ℕ) (ex : List ℕ) (a : ℕ) (t : T (test ns lo hi ex a)) (s : State) (k : ℕ) (hs : OneOf ns (tagOf the-type s)) where
-  pub decided : (lo ≤ k) × (k ≤ hi) × Apart ex k → arm a ≡ arm (armOf s k)
-  decided hk =
-      let one : T (allFrom (right ex a (tagOf the-type s)) lo (suc hi - lo)) = all-in (λ (n : ℕ). allFrom (right ex a n) lo (suc hi - lo)) ns t (tagOf the-type s) hs in
-      let two : T (right ex a (tagOf the-type s) k) = all-from (right ex a (tagOf the-type s)) lo (suc hi - lo) one k (hk .0) (omega arith) in
-      let three : T (eqb (armOf (stateAt (tagOf the-type s)) k) a) = subst (λ (b : Bool). T (b || eqb (armOf (stateAt (tagOf the-type s)) k) a)) (apart-among ex k (hk .2)) two in
-      ap arm (sym (eqb→eq (armOf (stateAt (tagOf the-type s)) k) a three) ∙ ap (λ (x : State). armOf x k) (state-at s))
+module _ (passes : ℕ → Bool) (ns : List ℕ) (lo hi : ℕ) (ex : List ℕ) (t : T (test passes ns lo hi ex)) (s : State) (k : ℕ) (hs : OneOf ns (tagOf the-type s)) where
+  pub tested : (lo ≤ k) × (k ≤ hi) × Apart ex k → T (passes (armOf s k))
+  tested hk =
+      let n = tagOf the-type s in
+      let one : T (allFrom (right passes ex n) lo (suc hi - lo)) = all-in (λ (m : ℕ). allFrom (right passes ex m) lo (suc hi - lo)) ns t n hs in
+      let two : T (right passes ex n k) = all-from (right passes ex n) lo (suc hi - lo) one k (hk .0) (omega arith) in
+      let three : T (passes (armOf (stateAt n) k)) = subst (λ (b : Bool). T (b || passes (armOf (stateAt n) k))) (apart-among ex k (hk .2)) two in
+      subst (λ (x : State). T (passes (armOf x k))) (state-at s) three
 
-pub decided-at : (ns : List ℕ) (k₀ a : ℕ) → T (test ns k₀ k₀ [] a) → (s : State) (k : ℕ) → OneOf ns (tagOf the-type s) → k ≡ k₀ → arm a ≡ arm (armOf s k)
+-- it is arm a
+abbrev pub is : ℕ → ℕ → Bool
+is a n = eqb n a
+
+-- it is another
+abbrev pub isNot : ℕ → ℕ → Bool
+isNot a n = not (eqb n a)
+
+pub decided : (ns : List ℕ) (lo hi : ℕ) (ex : List ℕ) (a : ℕ) → T (test (is a) ns lo hi ex) → (s : State) (k : ℕ) → OneOf ns (tagOf the-type s) → (lo ≤ k) × (k ≤ hi) × Apart ex k → arm a ≡ arm (armOf s k)
+decided ns lo hi ex a t s k hs hk = ap arm (sym (eqb→eq (armOf s k) a (tested (is a) ns lo hi ex t s k hs hk)))
+
+pub decided-at : (ns : List ℕ) (k₀ a : ℕ) → T (test (is a) ns k₀ k₀ []) → (s : State) (k : ℕ) → OneOf ns (tagOf the-type s) → k ≡ k₀ → arm a ≡ arm (armOf s k)
 decided-at ns k₀ a t s k hs e = decided ns k₀ k₀ [] a t s k hs (omega arith, omega arith, tt)
+
+pub never : (a lo hi : ℕ) (ex : List ℕ) → T (test (isNot a) (but []) lo hi ex) → (s : State) (k : ℕ) → (lo ≤ k) × (k ≤ hi) × Apart ex k → armOf s k ≡ a → ⊥
+never a lo hi ex t s k hk e = subst (λ (b : Bool). T (not b)) (eq-eqb (armOf s k) a e) (tested (isNot a) (but []) lo hi ex t s k (any-state s) hk)
 
 -- what the `_` of a match knows: the number is none of the keys, the last arm's first
 abbrev pub Rest : List ℕ → ℕ → Type 0
@@ -142,5 +159,5 @@ apart-rest : (ys : List ℕ) (x : ℕ) → Rest ys x → Apart ys x
 apart-rest [] x h = tt
 apart-rest (y ∷ ys) x h = (h .1, apart-rest ys x (h .0))
 
-pub decided-rest : (ns : List ℕ) (lo hi : ℕ) (ex : List ℕ) (a : ℕ) → T (test ns lo hi ex a) → (s : State) (k : ℕ) → OneOf ns (tagOf the-type s) → lo ≤ k → k ≤ hi → Rest ex k → arm a ≡ arm (armOf s k)
+pub decided-rest : (ns : List ℕ) (lo hi : ℕ) (ex : List ℕ) (a : ℕ) → T (test (is a) ns lo hi ex) → (s : State) (k : ℕ) → OneOf ns (tagOf the-type s) → lo ≤ k → k ≤ hi → Rest ex k → arm a ≡ arm (armOf s k)
 decided-rest ns lo hi ex a t s k hs l u r = decided ns lo hi ex a t s k hs (l, u, apart-rest ex k r)

@@ -8,3 +8,6 @@ pub mod Unread
 pub mod Stepping
 pub mod Behind
 pub mod Ahead
+pub mod Starts
+pub mod Unique
+mod Examples
