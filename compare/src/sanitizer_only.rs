@@ -6,17 +6,7 @@ mod tokens;
 
 fn main() {
     let quick = std::env::args().nth(1).as_deref() == Some("quick");
-    let size = if quick {
-        sanitizer::Size {
-            list: 3,
-            random: 20_000,
-        }
-    } else {
-        sanitizer::Size {
-            list: 4,
-            random: 1_000_000,
-        }
-    };
+    let size = if quick { sanitizer::Size { list: 3, random: 20_000 } } else { sanitizer::Size { list: 4, random: 1_000_000 } };
     if let Err(difference) = sanitizer::run(&size) {
         eprintln!("{difference}");
         std::process::exit(1);

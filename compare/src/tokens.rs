@@ -1,7 +1,7 @@
 //! Tokens of the Rust and token slots of the port, each made from the other: the one place that knows both.
 use sql_lexer::{
-    ArithmeticOperator, BitwiseOperator, BufferSlice, ComparisonOperator, JsonOperator, Keyword,
-    LiteralValueTypeIndicator, LogicalOperator, Operator, Token,
+    ArithmeticOperator, BitwiseOperator, BufferSlice, ComparisonOperator, JsonOperator, Keyword, LiteralValueTypeIndicator, LogicalOperator,
+    Operator, Token,
 };
 
 /// The words of a slot: kind, first, second.
@@ -258,10 +258,7 @@ pub fn slots(tokens: &[Token]) -> Vec<u32> {
 
 /// The tokens in the whole slots of a buffer.
 pub fn tokens(slots: &[u32]) -> Vec<Token> {
-    slots
-        .chunks_exact(WORDS)
-        .map(|w| token(w[0], w[1], w[2]))
-        .collect()
+    slots.chunks_exact(WORDS).map(|w| token(w[0], w[1], w[2])).collect()
 }
 
 /// Each kind to its token and back. The two matches above are each other's inverse.

@@ -101,6 +101,16 @@ module _ (v : Slot) (Y Y′ : List Slot) where
     pub nexts : y .next ≡ x .next
     pub states : y .state ≡ x .state
 
+  fronted-by : (A F : List Slot) (x y : Step) {x′ y′ : Step} → x ≡ x′ → y ≡ y′ → length F ≡ length A → Fronted F x′ y′ → Fronted A x y
+  fronted-by A F x y e f l r = record {
+    front = r .front;
+    one = ap (λ (w : Step). w .left) e ∙ r .one;
+    two = ap (λ (w : Step). w .left) f ∙ r .two;
+    long = r .long ∙ l;
+    nexts = ap (λ (w : Step). w .next) f ∙ r .nexts ∙ sym (ap (λ (w : Step). w .next) e);
+    states = ap (λ (w : Step). w .state) f ∙ r .states ∙ sym (ap (λ (w : Step). w .state) e);
+  }
+
   -- ---- what a turn looks at
   look : (A : List Slot) (i : ℕ) → i ≤ length A → kindAt (A ++ v ∷ Y′) i ≡ kindAt (A ++ v ∷ Y) i
   look A i h = go (decLt i (length A))
@@ -237,14 +247,7 @@ module _ (v : Slot) (Y Y′ : List Slot) where
         ap (λ (us : List Slot). after m us (y .next) (y .state)) (t .two) ∙ ap (λ (q : ℕ). after m (t .front ++ v ∷ Y′) q (y .state)) (t .nexts)
         ∙ ap (λ (z : State). after m (t .front ++ v ∷ Y′) (x .next) z) (t .states) in
         let r = ahead-after m (t .front) (x .next) (x .state) (omega (arith, t .long, ap (λ (w : Step). w .next) e)) in
-        record {
-          front = r .front;
-          one = ap (λ (w : Step). w .left) e ∙ r .one;
-          two = ap (λ (w : Step). w .left) f ∙ r .two;
-          long = r .long ∙ t .long;
-          nexts = ap (λ (w : Step). w .next) f ∙ r .nexts ∙ sym (ap (λ (w : Step). w .next) e);
-          states = ap (λ (w : Step). w .state) f ∙ r .states ∙ sym (ap (λ (w : Step). w .state) e);
-        }
+        fronted-by A (t .front) (after m (x .left) (x .next) (x .state)) (after m (y .left) (y .next) (y .state)) e f (t .long) r
 
     -- the two lists, where m turns arrive at the place of v
     pub ahead-sanitized : (m : ℕ) (A : List Slot) → after m (A ++ v ∷ Y) 0 Default .next ≡ length A

@@ -76,58 +76,38 @@ pub fn turn_at(slots: &mut [u32], count: usize, place: Place, state: State) -> T
     ensures { λ r. ⌜ Turned count (now (slots .entry)) (now (slots .exit)) (place .0) (turn (tokensIn (now (slots .entry)) count) (place .0) state) (r .next .0) (r .state) ⌝ }
 {
     let at = place.0;
+    let next = Place(at + 1);
     let arm = choose(state, kind_at(slots, place));
     let does = arm.1;
     match does {
-        Does::Stay => Turn {
-            next: Place(at + 1),
-            state,
-        },
-        Does::Go(other) => Turn {
-            next: Place(at + 1),
-            state: other,
-        },
+        Does::Stay => Turn { next, state },
+        Does::Go(state) => Turn { next, state },
         Does::Replace => {
             replace(slots, place, kind::PLACEHOLDER);
-            Turn {
-                next: Place(at + 1),
-                state,
-            }
+            Turn { next, state }
         }
         Does::ReplaceUnlessDotted => {
             if is_dotted(slots, count, place) {
-                return Turn {
-                    next: Place(at + 1),
-                    state,
-                };
+                return Turn { next, state };
             }
             replace(slots, place, kind::PLACEHOLDER);
-            Turn {
-                next: Place(at + 1),
-                state,
-            }
+            Turn { next, state }
         }
         Does::ReplaceToClose => {
-            let close = close_from(slots, count, Place(at + 1));
+            let close = close_from(slots, count, next);
             one_for(slots, place, close, kind::PLACEHOLDER);
             Turn { next: close, state }
         }
         Does::CollapseRows => {
-            let end = rows_from(slots, count, Place(at + 1));
+            let end = rows_from(slots, count, next);
             one_for(slots, place, end, kind::ELLIPSIS);
             // The token after the rows is passed over.
-            let passed = end.0 + 1;
-            Turn {
-                next: Place(passed),
-                state,
-            }
+            let next = Place(end.0 + 1);
+            Turn { next, state }
         }
         Does::RemoveComment => {
             remove_comment(slots, place);
-            Turn {
-                next: Place(at + 1),
-                state,
-            }
+            Turn { next, state }
         }
     }
 }

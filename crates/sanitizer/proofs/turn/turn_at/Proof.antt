@@ -17,6 +17,9 @@ use borrow.Author.Needs.{needs}
 use Rattle.sanitizer.proofs.turn.turn_at.Statement.{statement}
 use Rattle.sanitizer.proofs.turn.turn_at.Tie as tie
 
+add-t13 : tie.Need-add-t13
+add-t13 c = search needs
+
 kind-at-requires : tie.Need-kind-at-requires
 kind-at-requires c κs = search needs
 
@@ -29,14 +32,8 @@ choose-requires c κs =
 enum-told : tie.Need-enum-told
 enum-told c = search needs
 
-add-t16 : tie.Need-add-t16
-add-t16 c = search needs
-
 enum-known-does : tie.Need-enum-known-does
 enum-known-does c = search needs
-
-add-t18 : tie.Need-add-t18
-add-t18 c = search needs
 
 enum-told-2 : tie.Need-enum-told-2
 enum-told-2 c = search needs
@@ -44,17 +41,11 @@ enum-told-2 c = search needs
 replace-requires : tie.Need-replace-requires
 replace-requires c κs = search needs
 
-add-t23 : tie.Need-add-t23
-add-t23 c = search needs
-
 enum-told-3 : tie.Need-enum-told-3
 enum-told-3 c = search needs
 
 is-dotted-requires : tie.Need-is-dotted-requires
 is-dotted-requires c κs = search needs
-
-add-t28 : tie.Need-add-t28
-add-t28 c = search needs
 
 same-length : tie.Need-same-length
 same-length c = search needs
@@ -71,14 +62,8 @@ returns c =
 replace-requires-2 : tie.Need-replace-requires-2
 replace-requires-2 c κs = search needs
 
-add-t33 : tie.Need-add-t33
-add-t33 c = search needs
-
 enum-told-4 : tie.Need-enum-told-4
 enum-told-4 c = search needs
-
-add-t37 : tie.Need-add-t37
-add-t37 c = search needs
 
 close-from-requires : tie.Need-close-from-requires
 close-from-requires c κs = search needs
@@ -89,26 +74,20 @@ one-for-requires c κs = search needs
 enum-told-5 : tie.Need-enum-told-5
 enum-told-5 c = search needs
 
-add-t44 : tie.Need-add-t44
-add-t44 c = search needs
-
 rows-from-requires : tie.Need-rows-from-requires
 rows-from-requires c κs = search needs
 
 one-for-requires-2 : tie.Need-one-for-requires-2
 one-for-requires-2 c κs = search needs
 
-add-passed : tie.Need-add-passed
-add-passed c = search needs
+add-t37 : tie.Need-add-t37
+add-t37 c = search needs
 
 enum-told-6 : tie.Need-enum-told-6
 enum-told-6 c = search needs
 
 remove-comment-requires : tie.Need-remove-comment-requires
 remove-comment-requires c κs = search needs
-
-add-t52 : tie.Need-add-t52
-add-t52 c = search needs
 
 same-length-2 : tie.Need-same-length-2
 same-length-2 c = search needs
@@ -200,34 +179,27 @@ pub turn-at-spec : {M : Type 1} → statement M
 turn-at-spec =
     tie.close
     (tie.spec
+    add-t13
     kind-at-requires
     choose-requires
     enum-told
-    add-t16
     enum-known-does
-    add-t18
     enum-told-2
     replace-requires
-    add-t23
     enum-told-3
     is-dotted-requires
-    add-t28
     same-length
     returns
     replace-requires-2
-    add-t33
     enum-told-4
-    add-t37
     close-from-requires
     one-for-requires
     enum-told-5
-    add-t44
     rows-from-requires
     one-for-requires-2
-    add-passed
+    add-t37
     enum-told-6
     remove-comment-requires
-    add-t52
     same-length-2
     returns-2
     same-length-3
