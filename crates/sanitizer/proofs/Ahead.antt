@@ -7,7 +7,7 @@
 use mathlib.Core.Path.{_≡_, refl, sym, ap, _∙_, subst}
 use mathlib.Core.Bool.{Bool, true, false, cond, _||_, true≢false}
 use mathlib.Core.List.{List, [], _∷_, _++_}
-use Prim.Native.Nat.{ℕ, zero, suc, _+_, _-_, _≤_, _<_}
+use Prim.Native.Nat.{ℕ, zero, suc, _+_, _≤_, _<_, _-_}
 use native.Mathlib.Omega.{arith}
 use native.Mathlib.Decide.{decLt}
 use lib.ListN.{length, getD, set, drop, length-append, length-map, length-set, length-drop, List·getD-append}
@@ -22,7 +22,7 @@ use Rattle.sanitizer.specs.declared.arms.Does.{Does}
 use Rattle.sanitizer.specs.declared.arms.Does.the-variants.{Stay, Go, Replace, ReplaceUnlessDotted, ReplaceToClose, CollapseRows, RemoveComment}
 use Rattle.sanitizer.specs.Arms.{armOf, doesOf}
 use Rattle.sanitizer.specs.Scans.{kindAt, kindBefore, isClose, isGap, closeFrom, rowsFrom, closeAt, rowsAt}
-use Rattle.sanitizer.specs.Run.{dotted, oneFor, uncommented, Step, turn, turnBy, run, sanitized, blank}
+use Rattle.sanitizer.specs.Run.{dotted, oneFor, Step, turn, turnBy, run, sanitized, blank}
 use Rattle.sanitizer.proofs.Scanning.{kindOf, close-ge, rows-ge, rowWays}
 use Rattle.sanitizer.proofs.Unread.{next-later}
 use Rattle.sanitizer.proofs.Behind.{kinds-append}
@@ -233,21 +233,27 @@ module _ (v : Slot) (Y Y′ : List Slot) where
         (sym (look A p (omega arith))) (front-by n (doesOf (armOf s (kindAt (A ++ v ∷ Y) p))) A p s h l)
 
     -- ---- all turns up to the place
-    pub ahead-after : (m : ℕ) (A : List Slot) (p : ℕ) (s : State) → after m (A ++ v ∷ Y) p s .next ≤ length A → Fronted A (after m (A ++ v ∷ Y) p s) (after m (A ++ v ∷ Y′) p s)
-    unfolding after
-    ahead-after zero A p s l = record { front = A; one = refl; two = refl; long = refl; nexts = refl; states = refl }
-    ahead-after (suc m) A p s l =
-        let x = turn (A ++ v ∷ Y) p s in
-        let y = turn (A ++ v ∷ Y′) p s in
-        let near : x .next ≤ length A = omega (arith, after-ge m (x .left) (x .next) (x .state)) in
-        let t = ahead-turn A p s (omega (arith, next-later (A ++ v ∷ Y) p s)) near in
+    -- m more turns after a step that both took
+    ahead-on : (m : ℕ) (A : List Slot) (x y : Step) → after m (x .left) (x .next) (x .state) .next ≤ length A → Fronted A x y
+        → ((F : List Slot) → after m (F ++ v ∷ Y) (x .next) (x .state) .next ≤ length F → Fronted F (after m (F ++ v ∷ Y) (x .next) (x .state)) (after m (F ++ v ∷ Y′) (x .next) (x .state)))
+        → Fronted A (after m (x .left) (x .next) (x .state)) (after m (y .left) (y .next) (y .state))
+    ahead-on m A x y l t more =
         let e : after m (x .left) (x .next) (x .state) ≡ after m (t .front ++ v ∷ Y) (x .next) (x .state) =
         ap (λ (us : List Slot). after m us (x .next) (x .state)) (t .one) in
         let f : after m (y .left) (y .next) (y .state) ≡ after m (t .front ++ v ∷ Y′) (x .next) (x .state) =
         ap (λ (us : List Slot). after m us (y .next) (y .state)) (t .two) ∙ ap (λ (q : ℕ). after m (t .front ++ v ∷ Y′) q (y .state)) (t .nexts)
         ∙ ap (λ (z : State). after m (t .front ++ v ∷ Y′) (x .next) z) (t .states) in
-        let r = ahead-after m (t .front) (x .next) (x .state) (omega (arith, t .long, ap (λ (w : Step). w .next) e)) in
-        fronted-by A (t .front) (after m (x .left) (x .next) (x .state)) (after m (y .left) (y .next) (y .state)) e f (t .long) r
+        fronted-by A (t .front) (after m (x .left) (x .next) (x .state)) (after m (y .left) (y .next) (y .state)) e f (t .long)
+        (more (t .front) (omega (arith, t .long, ap (λ (w : Step). w .next) e)))
+
+    pub ahead-after : (m : ℕ) (A : List Slot) (p : ℕ) (s : State) → after m (A ++ v ∷ Y) p s .next ≤ length A → Fronted A (after m (A ++ v ∷ Y) p s) (after m (A ++ v ∷ Y′) p s)
+    unfolding after
+    ahead-after zero A p s l = record { front = A; one = refl; two = refl; long = refl; nexts = refl; states = refl }
+    ahead-after (suc m) A p s l =
+        let x = turn (A ++ v ∷ Y) p s in
+        let near : x .next ≤ length A = omega (arith, after-ge m (x .left) (x .next) (x .state)) in
+        ahead-on m A x (turn (A ++ v ∷ Y′) p s) l (ahead-turn A p s (omega (arith, next-later (A ++ v ∷ Y) p s)) near)
+        (λ F g. ahead-after m F (x .next) (x .state) g)
 
     -- the two lists, where m turns arrive at the place of v
     pub ahead-sanitized : (m : ℕ) (A : List Slot) → after m (A ++ v ∷ Y) 0 Default .next ≡ length A

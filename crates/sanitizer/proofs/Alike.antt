@@ -9,8 +9,8 @@
 use mathlib.Core.Path.{_≡_, refl, sym, ap, _∙_, subst}
 use mathlib.Core.Bool.{Bool, true, false, cond, _||_}
 use mathlib.Core.Logic.{_⊎_, inl, inr, ⊎-elim}
-use mathlib.Core.List.{List, [], _∷_, map}
-use Prim.Native.Nat.{ℕ, zero, suc, _+_, _-_, _≤_, _<_}
+use mathlib.Core.List.{List, [], _∷_}
+use Prim.Native.Nat.{ℕ, zero, suc, _+_, _<_, _-_}
 use native.Mathlib.Omega.{arith}
 use native.Mathlib.Decide.{ℕ-discrete, decLt}
 use lib.ListN.{length, getD, set, drop, length-map, List·getD-map}
@@ -25,7 +25,7 @@ use Rattle.sanitizer.specs.declared.arms.Does.{Does}
 use Rattle.sanitizer.specs.declared.arms.Does.the-variants.{Stay, Go, Replace, ReplaceUnlessDotted, ReplaceToClose, CollapseRows, RemoveComment}
 use Rattle.sanitizer.specs.Arms.{armOf, doesOf}
 use Rattle.sanitizer.specs.Scans.{kindAt, kindBefore, closeFrom, rowsFrom, closeAt, rowsAt}
-use Rattle.sanitizer.specs.Run.{dotted, oneFor, uncommented, Step, turn, turnBy, run, sanitized, blank}
+use Rattle.sanitizer.specs.Run.{dotted, oneFor, Step, turn, turnBy, run, sanitized, blank}
 use Rattle.sanitizer.specs.Exposed.{exposed, isExposed}
 use Rattle.sanitizer.proofs.Scanning.{kindOf}
 

@@ -1,35 +1,29 @@
 -- The exposed count one token at a time, and the answers of `sanitize`.
 -- exposed-end, -on             the count of the tokens from a place on
 -- one-at-most, value-low       what one token counts for
--- accepted-known               every kind of a well-formed list is one of the 84
 -- refuse-limit, -room, -token, accept   the cases of the promise
 -- Assumes nothing.
-use mathlib.Core.Path.{_≡_, refl, sym, ap, _∙_, subst}
-use mathlib.Core.Bool.{Bool, true, false, cond, _||_, not, or-true}
-use mathlib.Core.List.{List, [], _∷_}
-use Prim.Native.Nat.{ℕ, zero, suc, _+_, _-_, _≤_, _<_}
+use mathlib.Core.Path.{_≡_}
+use mathlib.Core.Bool.{Bool, true, false, cond, or-true}
+use mathlib.Core.List.{List}
+use Prim.Native.Nat.{ℕ, suc, _+_, _≤_, _<_}
 use native.Mathlib.Omega.{arith}
-use native.Mathlib.Decide.{decLt}
 use native.Mathlib.Numerals.{add-one}
-use lib.ListN.{length, getD, drop, drop-of-length-le}
+use lib.ListN.{length, drop, drop-of-length-le}
 use lib.Seq.{drop-cons}
-use lib.Dec.{eqb, ltb}
-use borrow.Author.Tests.{eq-eqb, ne-eqb, lt-ltb, le-ltb}
+use lib.Dec.{ltb}
+use borrow.Author.Tests.{ne-eqb, lt-ltb, le-ltb}
 use Rattle.tokens.specs.Kinds as kind
-use Rattle.tokens.specs.Slots.{bare, room, tokensFrom, tokensIn, laid, Left}
-use Rattle.tokens.specs.Formed.{wellFormed, malformed, firstPlace}
+use Rattle.tokens.specs.Slots.{bare, room, tokensIn}
+use Rattle.tokens.specs.Formed.{malformed, firstPlace}
 use Rattle.tokens.specs.Answers.{limit}
 use Rattle.tokens.specs.declared.slot.Slot.{Slot}
 use Rattle.tokens.specs.declared.refusal.Refusal.the-variants.{BadCount, BadToken}
-use Rattle.tokens.proofs.Storing.{length-tokens, left-laid}
-use Rattle.tokens.proofs.Places.{place-none}
-use Rattle.tokens.proofs.Forms.{formed-kind}
+use Rattle.tokens.proofs.Storing.{left-laid}
 use Rattle.sanitizer.specs.declared.Sanitized.the-variants.{Done, Refused}
 use Rattle.sanitizer.specs.Scans.{kindAt}
-use Rattle.sanitizer.specs.Run.{sanitized, Known}
 use Rattle.sanitizer.specs.Exposed.{exposed, isExposed}
-use Rattle.sanitizer.specs.Promise.{countRefused, tokenRefused, sanitizeAnswer, sanitizeBuffer, Sanitizes, SanitizesTokens}
-use Rattle.sanitizer.proofs.Scanning.{kind-past}
+use Rattle.sanitizer.specs.Promise.{sanitizeAnswer, sanitizeBuffer, Sanitizes, SanitizesTokens}
 
 -- ---- the count
 module _ (ts : List Slot) (i : ℕ) where
@@ -51,20 +45,6 @@ one-at-most false = omega arith
 
 pub value-low : (k : ℕ) → (k ≡ kind.SingleQuoted → ⊥) → (k ≡ kind.Numeric → ⊥) → _≡_ {A = ℕ} (cond (isExposed k) 1 0) 0
 value-low k a b = rw (ne-eqb k kind.SingleQuoted a, ne-eqb k kind.Numeric b)
-
--- ---- accepted lists
-formed-of : (b : Bool) → not b ≡ false → b ≡ true
-formed-of true e = refl
-formed-of false e = sym e
-
-pub accepted-known : (ts : List Slot) → firstPlace malformed ts ≡ length ts → Known ts
-accepted-known ts h i = go (decLt i (length ts))
-  where
-    go : Dec (i < length ts) → kindAt ts i ≤ kind.Unknown
-    go (yes l) =
-        formed-kind (getD ts i (bare kind.None))
-        (formed-of (wellFormed (getD ts i (bare kind.None))) (place-none malformed ts (bare kind.None) h i l))
-    go (no l) = omega (arith, kind-past ts i (omega arith))
 
 -- ---- the answers
 module _ (ws : List ℕ) (n : ℕ) where

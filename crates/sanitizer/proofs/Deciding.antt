@@ -8,10 +8,10 @@
 -- never                  an arm that no state has for any kind of a range, but for some kinds
 -- Assumes nothing.
 use mathlib.Core.Path.{_≡_, refl, sym, ap, subst, _∙_}
-use mathlib.Core.Logic.{_⊎_, inl, inr}
+use mathlib.Core.Logic.{inl, inr}
 use mathlib.Core.Bool.{Bool, true, false, _&&_, _||_, not, cond}
 use mathlib.Core.List.{List, [], _∷_}
-use Prim.Native.Nat.{ℕ, zero, suc, _+_, _-_, _≤_, _<_}
+use Prim.Native.Nat.{ℕ, zero, suc, _+_, _≤_, _<_, _-_}
 use native.Mathlib.Decide.{ℕ-discrete}
 use native.Mathlib.Omega.{arith}
 use lib.Dec.{T, eqb, eqb→eq}
@@ -21,7 +21,6 @@ use denote.Enum.Declared.{tagOf}
 use borrow.Author.Tests.{eq-eqb, ne-eqb}
 use Rattle.sanitizer.specs.declared.arms.State.{State}
 use Rattle.sanitizer.specs.declared.arms.State.the-variants.{Default, ComparisonOperator, InsertValues, InsertValuesJustClosed, JoinOn, Offset, Between, Keyword, KeywordScopeStarted, Array, ArrayStarted}
-use Rattle.sanitizer.specs.declared.arms.Arm.{Arm}
 use Rattle.sanitizer.specs.Arms.{stateNo, among, within, armOf, arm}
 use Rattle.sanitizer.proofs.arms.State.{the-type}
 

@@ -4,21 +4,26 @@
 -- known-turn           every kind stays one of the 84
 -- length-turn, length-sanitized   a list stays as long
 -- formed-sanitized     a list stays well formed
+-- accepted-formed, formed-accepted   the first malformed place is the end exactly where every token is well formed
+-- accepted-sanitized   an accepted list stays accepted
+-- accepted-known       its kinds are of the 84
 -- Assumes nothing.
 use mathlib.Core.Path.{_≡_, refl, sym, ap, _∙_, subst}
-use mathlib.Core.Bool.{Bool, true, false, cond}
+use mathlib.Core.Bool.{Bool, true, false, cond, not}
 use mathlib.Core.Logic.{_⊎_, inl, inr, ⊎-elim}
 use mathlib.Core.List.{List, [], _∷_}
-use Prim.Native.Nat.{ℕ, zero, suc, _+_, _-_, _≤_, _<_}
+use Prim.Native.Nat.{ℕ, zero, suc, _+_, _≤_, _<_, _-_}
 use native.Mathlib.Omega.{arith}
 use native.Mathlib.Decide.{ℕ-discrete, decLt}
-use lib.ListN.{length, getD, set, length-set}
+use lib.ListN.{length, getD, set, length-set, List·getD-eq-default}
 use lib.Seq.{getD-set-same, getD-set-other, set-out}
 use lib.Dec.{eqb, ltb}
 use Rattle.tokens.specs.Kinds as kind
 use Rattle.tokens.specs.Slots.{bare}
-use Rattle.tokens.specs.Formed.{wellFormed, carriesOffsets}
+use Rattle.tokens.specs.Formed.{wellFormed, carriesOffsets, malformed, firstPlace}
 use Rattle.tokens.specs.declared.slot.Slot.{Slot}
+use Rattle.tokens.proofs.Places.{place-none}
+use Rattle.tokens.proofs.Forms.{formed-kind}
 use Rattle.sanitizer.specs.declared.arms.State.{State}
 use Rattle.sanitizer.specs.declared.arms.State.the-variants.{Default}
 use Rattle.sanitizer.specs.declared.arms.Does.{Does}
@@ -124,3 +129,31 @@ pub formed-sanitized : (ts : List Slot) → AllFormed ts → AllFormed (sanitize
 formed-sanitized =
     keep-sanitized AllFormed
     (λ us i k z h j. ⊎-elim (λ e. ap wellFormed e ∙ put-formed k z) (λ e. ap wellFormed e ∙ h j) (getD-set-either us i (bare k) j (bare kind.None)))
+
+-- ---- accepted lists
+-- a list is accepted when the first malformed place is its end
+abbrev pub Accepted : List Slot → Type 0
+Accepted ts = firstPlace malformed ts ≡ length ts
+
+formed-of : (b : Bool) → not b ≡ false → b ≡ true
+formed-of true e = refl
+formed-of false e = sym e
+
+pub accepted-formed : (ts : List Slot) → Accepted ts → AllFormed ts
+accepted-formed ts h i = go (decLt i (length ts))
+  where
+    go : Dec (i < length ts) → wellFormed (getD ts i (bare kind.None)) ≡ true
+    go (yes l) = formed-of (wellFormed (getD ts i (bare kind.None))) (place-none malformed ts (bare kind.None) h i l)
+    go (no l) = ap wellFormed (List·getD-eq-default ts (bare kind.None) {n = i} (omega arith)) ∙ put-formed kind.None (inl refl)
+
+pub formed-accepted : (ts : List Slot) → AllFormed ts → Accepted ts
+unfolding firstPlace
+formed-accepted [] h = refl
+formed-accepted (t ∷ ts) h =
+    ap (λ (b : Bool). cond (not b) 0 (suc (firstPlace malformed ts))) (h 0) ∙ ap suc (formed-accepted ts (λ i. h (suc i)))
+
+pub accepted-sanitized : (ts : List Slot) → Accepted ts → Accepted (sanitized ts)
+accepted-sanitized ts h = formed-accepted (sanitized ts) (formed-sanitized ts (accepted-formed ts h))
+
+pub accepted-known : (ts : List Slot) → Accepted ts → Known ts
+accepted-known ts h i = formed-kind (getD ts i (bare kind.None)) (accepted-formed ts h i)

@@ -10,18 +10,18 @@
 -- rowWays                            the cases of the rows' scan
 -- close-ge, rows-ge                  a scan's answer is at its place or later
 -- Assumes nothing.
-use mathlib.Core.Path.{_≡_, refl, sym, ap, _∙_}
-use mathlib.Core.Bool.{Bool, true, false, cond, _||_, or-true}
+use mathlib.Core.Path.{_≡_, refl, ap, _∙_}
+use mathlib.Core.Bool.{Bool, true, false, cond}
 use mathlib.Core.List.{List, [], _∷_}
-use Prim.Native.Nat.{ℕ, zero, suc, _+_, _-_, _≤_, _<_}
+use Prim.Native.Nat.{ℕ, zero, suc, _+_, _≤_, _<_, _-_}
 use native.Mathlib.Omega.{arith}
 use native.Mathlib.Numerals.{add-one}
 use lib.Dec.{eqb}
-use lib.ListN.{length, getD, drop, length-map, List·getD-map, drop-of-length-le, List·getD-eq-default}
+use lib.ListN.{length, drop, length-map, List·getD-map, drop-of-length-le, List·getD-eq-default}
 use lib.Seq.{drop-cons}
 use borrow.Author.Tests.{eq-eqb, ne-eqb}
 use Rattle.tokens.specs.Kinds as kind
-use Rattle.tokens.specs.Slots.{bare, slotAt, tokensFrom, tokensIn, kinds}
+use Rattle.tokens.specs.Slots.{bare, slotAt, tokensIn, kinds}
 use Rattle.tokens.specs.declared.slot.Slot.{Slot}
 use Rattle.tokens.proofs.Storing.{getD-tokens}
 use Rattle.sanitizer.specs.Scans.{kindAt, kindBefore, isClose, isGap, closeFrom, rowsFrom, closeAt, rowsAt}

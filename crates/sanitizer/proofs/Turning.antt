@@ -10,16 +10,14 @@
 -- Runs, runs-start, -done, -more   the turns still to take end in the sanitised list
 -- Assumes nothing.
 use mathlib.Core.Path.{_≡_, refl, sym, ap, _∙_, subst}
-use mathlib.Core.Bool.{Bool, true, false, cond}
-use mathlib.Core.List.{List, [], _∷_}
-use Prim.Native.Nat.{ℕ, zero, suc, _+_, _-_, _≤_, _<_}
+use mathlib.Core.List.{List}
+use Prim.Native.Nat.{ℕ, zero, suc, _+_, _≤_, _<_, _-_}
 use native.Mathlib.Omega.{arith}
 use native.Mathlib.Numerals.{add-one}
-use lib.ListN.{length, getD, drop, set}
-use lib.Dec.{eqb}
+use lib.ListN.{length, set}
 use borrow.Author.Tests.{eq-eqb, ne-eqb, le-ltb, lt-ltb}
 use Rattle.tokens.specs.Kinds as kind
-use Rattle.tokens.specs.Slots.{bare, room, slotAt, stored, tokensFrom, tokensIn, Left}
+use Rattle.tokens.specs.Slots.{bare, room, slotAt, stored, tokensIn, Left}
 use Rattle.tokens.specs.declared.slot.Slot.{Slot}
 use Rattle.tokens.proofs.Storing.{length-tokens, left-stored, left-same, left-then, slot-other}
 use Rattle.sanitizer.specs.declared.arms.State.{State}

@@ -5,7 +5,7 @@
 -- unique-tokens, tokens-unique   the same of the contract of `sanitize_tokens`
 -- Assumes nothing.
 use mathlib.Core.Path.{_≡_, refl, ap, sym, _∙_}
-use mathlib.Core.List.{List, [], _∷_}
+use mathlib.Core.List.{List}
 use Prim.Native.Nat.{ℕ, _≤_}
 use lib.ListN.{getD}
 use contract.Lifetimes.{Lfts}

@@ -2,12 +2,12 @@
 -- next-later   the next place is a later one
 -- unread       the tokens from the next place on are as they were
 -- Assumes nothing.
-use mathlib.Core.Path.{_≡_, refl, sym, ap, _∙_}
+use mathlib.Core.Path.{_≡_, refl, _∙_}
 use mathlib.Core.Bool.{Bool, true, false, cond}
 use mathlib.Core.List.{List}
-use Prim.Native.Nat.{ℕ, zero, suc, _+_, _-_, _≤_, _<_}
+use Prim.Native.Nat.{ℕ, zero, suc, _+_, _≤_, _<_, _-_}
 use native.Mathlib.Omega.{arith}
-use lib.ListN.{length, set, drop}
+use lib.ListN.{set, drop}
 use lib.Seq.{drop-set-lt}
 use lib.Dec.{eqb}
 use Rattle.tokens.specs.Kinds as kind

@@ -26,6 +26,11 @@ stateNo KeywordScopeStarted = 8
 stateNo Array = 9
 stateNo ArrayStarted = 10
 
+-- ---- patterns of kinds
+-- this kind
+abbrev pub only : ℕ → ℕ → Bool
+only x k = eqb k x
+
 -- one of these kinds
 abbrev pub among : List ℕ → ℕ → Bool
 among [] k = false
@@ -34,6 +39,11 @@ among (x ∷ xs) k = eqb k x || among xs k
 -- any kind
 abbrev pub anyKind : ℕ → Bool
 anyKind k = true
+
+-- ---- patterns of states
+-- this state
+abbrev pub when : State → State → Bool
+when x s = eqb (stateNo s) (stateNo x)
 
 -- one of these states
 abbrev pub within : List State → State → Bool
@@ -44,6 +54,15 @@ within (x ∷ xs) s = eqb (stateNo s) (stateNo x) || within xs s
 abbrev pub anyState : State → Bool
 anyState s = true
 
+-- ---- the arms
+-- the kinds of values
+abbrev pub values : List ℕ
+values = kind.SingleQuoted ∷ kind.Numeric ∷ kind.Null ∷ kind.True ∷ kind.False ∷ []
+
+-- the states in which a value is replaced by itself
+abbrev pub valueStates : List State
+valueStates = ComparisonOperator ∷ InsertValues ∷ Offset ∷ Between ∷ []
+
 -- an arm's pattern, and what it does
 pub record Rule : Type 0 where
   pub kinds : ℕ → Bool
@@ -53,41 +72,38 @@ pub record Rule : Type 0 where
 abbrev pub rule : (ℕ → Bool) → (State → Bool) → Does → Rule
 rule ks ss d = record { kinds = ks; states = ss; does = d }
 
--- the arms, 1 to 32
+-- the arms: 1 to 3 of operators, 4 to 15 of words, 16 of indicators, 17 to 25 of brackets and marks, 26 to 28 of values, and the rest
 unfoldable pub rules : List Rule
 rules =
-    rule (among (kind.In ∷ [])) anyState (Go Keyword)
-    ∷ rule isOperator (within (JoinOn ∷ [])) (Go Default)
+    rule (only kind.In) anyState (Go Keyword)
+    ∷ rule isOperator (when JoinOn) (Go Default)
     ∷ rule isOperator anyState (Go ComparisonOperator)
-    ∷ rule (among (kind.Values ∷ [])) anyState (Go InsertValues)
-    ∷ rule (among (kind.On ∷ [])) anyState (Go JoinOn)
-    ∷ rule (among (kind.Offset ∷ [])) anyState (Go Offset)
-    ∷ rule (among (kind.Between ∷ [])) anyState (Go Between)
-    ∷ rule (among (kind.Array ∷ [])) anyState (Go Array)
-    ∷ rule (among (kind.And ∷ [])) (within (Between ∷ [])) Stay
+    ∷ rule (only kind.Values) anyState (Go InsertValues)
+    ∷ rule (only kind.On) anyState (Go JoinOn)
+    ∷ rule (only kind.Offset) anyState (Go Offset)
+    ∷ rule (only kind.Between) anyState (Go Between)
+    ∷ rule (only kind.Array) anyState (Go Array)
+    ∷ rule (only kind.And) (when Between) Stay
     ∷ rule (among (kind.And ∷ kind.Or ∷ [])) anyState (Go ComparisonOperator)
     ∷ rule (among (kind.Insert ∷ kind.Into ∷ [])) anyState Stay
     ∷ rule (among (kind.Limit ∷ kind.From ∷ [])) anyState (Go Default)
-    ∷ rule (among (kind.Where ∷ [])) anyState (Go ComparisonOperator)
-    ∷ rule isKeyword (within (KeywordScopeStarted ∷ [])) (Go KeywordScopeStarted)
-    ∷ rule (among (kind.Other ∷ [])) anyState (Go Keyword)
+    ∷ rule (only kind.Where) anyState (Go ComparisonOperator)
+    ∷ rule isKeyword (when KeywordScopeStarted) (Go KeywordScopeStarted)
+    ∷ rule (only kind.Other) anyState (Go Keyword)
     ∷ rule isIndicator anyState Stay
-    ∷ rule (among (kind.ParentheseOpen ∷ [])) (within (ComparisonOperator ∷ [])) (Go ComparisonOperator)
-    ∷ rule (among (kind.ParentheseOpen ∷ [])) (within (Keyword ∷ [])) (Go KeywordScopeStarted)
-    ∷ rule (among (kind.ParentheseOpen ∷ [])) (within (InsertValues ∷ [])) Stay
-    ∷ rule (among (kind.SquareBracketOpen ∷ [])) (within (Array ∷ [])) (Go ArrayStarted)
-    ∷ rule (among (kind.ParentheseClose ∷ [])) (within (InsertValues ∷ [])) (Go InsertValuesJustClosed)
-    ∷ rule (among (kind.Comma ∷ [])) (within (InsertValuesJustClosed ∷ [])) Stay
-    ∷ rule (among (kind.ParentheseOpen ∷ [])) (within (InsertValuesJustClosed ∷ [])) CollapseRows
+    ∷ rule (only kind.ParentheseOpen) (when ComparisonOperator) (Go ComparisonOperator)
+    ∷ rule (only kind.ParentheseOpen) (when Keyword) (Go KeywordScopeStarted)
+    ∷ rule (only kind.ParentheseOpen) (when InsertValues) Stay
+    ∷ rule (only kind.SquareBracketOpen) (when Array) (Go ArrayStarted)
+    ∷ rule (only kind.ParentheseClose) (when InsertValues) (Go InsertValuesJustClosed)
+    ∷ rule (only kind.Comma) (when InsertValuesJustClosed) Stay
+    ∷ rule (only kind.ParentheseOpen) (when InsertValuesJustClosed) CollapseRows
     ∷ rule (among (kind.ParentheseClose ∷ kind.SquareBracketClose ∷ [])) anyState (Go Default)
-    ∷ rule (among (kind.Dot ∷ [])) (within (JoinOn ∷ [])) Stay
-    ∷ rule (among (kind.SingleQuoted ∷ kind.Numeric ∷ kind.Null ∷ kind.True ∷ kind.False ∷ []))
-    (within (ComparisonOperator ∷ InsertValues ∷ Offset ∷ Between ∷ [])) Replace
-    ∷ rule (among (kind.DoubleQuoted ∷ [])) (within (ComparisonOperator ∷ InsertValues ∷ Offset ∷ Between ∷ [])) ReplaceUnlessDotted
-    ∷ rule
-    (among (kind.SingleQuoted ∷ kind.DoubleQuoted ∷ kind.Numeric ∷ kind.Null ∷ kind.True ∷ kind.False ∷ kind.NumberedPlaceholder ∷ []))
-    (within (ArrayStarted ∷ KeywordScopeStarted ∷ [])) ReplaceToClose
-    ∷ rule (among (kind.Comment ∷ [])) anyState RemoveComment
+    ∷ rule (only kind.Dot) (when JoinOn) Stay
+    ∷ rule (among values) (within valueStates) Replace
+    ∷ rule (only kind.DoubleQuoted) (within valueStates) ReplaceUnlessDotted
+    ∷ rule (among (kind.DoubleQuoted ∷ kind.NumberedPlaceholder ∷ values)) (within (ArrayStarted ∷ KeywordScopeStarted ∷ [])) ReplaceToClose
+    ∷ rule (only kind.Comment) anyState RemoveComment
     ∷ rule (among (kind.Space ∷ kind.None ∷ [])) anyState Stay
     ∷ rule anyKind (within (InsertValues ∷ KeywordScopeStarted ∷ [])) Stay
     ∷ rule anyKind anyState (Go Default)

@@ -1,8 +1,8 @@
 -- `sanitizer::pass` meets its contract. The invariant: the turns still to take end in the sanitised list, and past the count nothing is changed.
 -- Assumes nothing.
-use mathlib.Core.Path.{_≡_, refl, sym, ap, _∙_, subst}
+use mathlib.Core.Path.{sym, subst}
 use mathlib.Core.List.{List}
-use Prim.Native.Nat.{ℕ, _≤_, _<_, _-_, _+_}
+use Prim.Native.Nat.{_≤_, _+_, _-_}
 use native.Mathlib.Omega.{arith}
 use Rattle.tokens.specs.Slots.{tokensIn, Left}
 use Rattle.tokens.specs.declared.slot.Slot.{Slot}

@@ -1,16 +1,17 @@
 -- `sanitizer::sanitize` meets its contract: the two refusals in their order, then the whole run. Assumes nothing.
-use mathlib.Core.Path.{_≡_, refl, sym, ap, _∙_, subst}
+use mathlib.Core.Path.{sym, subst}
 use Prim.Native.Nat.{ℕ}
 use native.Mathlib.Omega.{arith}
 use borrow.Author.Needs.{needs}
 use Rattle.tokens.specs.Slots.{tokensIn}
-use Rattle.tokens.specs.Formed.{malformed, firstPlace}
+use Rattle.tokens.specs.Formed.{malformed}
 use Rattle.tokens.specs.declared.refusal.Refusal.the-variants.{BadCount, BadToken}
 use Rattle.tokens.proofs.Storing.{length-tokens}
 use Rattle.tokens.proofs.Places.{place-le}
 use Rattle.sanitizer.specs.declared.Sanitized.the-variants.{Refused}
 use Rattle.sanitizer.specs.Promise.{Sanitizes}
-use Rattle.sanitizer.proofs.Counting.{accepted-known, refuse-limit, refuse-room, refuse-token, accept}
+use Rattle.sanitizer.proofs.Keeping.{accepted-known}
+use Rattle.sanitizer.proofs.Counting.{refuse-limit, refuse-room, refuse-token, accept}
 use Rattle.sanitizer.proofs.sanitize.Statement.{statement}
 use Rattle.sanitizer.proofs.sanitize.Tie as tie
 

@@ -1,6 +1,5 @@
 -- `sanitizer_c::hay_sanitize` meets its contract: the answer of `sanitize` in numbers. Assumes nothing.
 use mathlib.Core.Path.{sym, ap, _∙_}
-use Rattle.tokens.specs.Answers.{Answer}
 use Rattle.sanitizer.specs.Promise.{paper}
 use Rattle.sanitizer.specs.declared.Sanitized.{Sanitized}
 use Rattle.sanitizer_c.specs.Answers.{numbers}

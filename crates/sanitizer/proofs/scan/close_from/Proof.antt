@@ -1,6 +1,6 @@
 -- `sanitizer::scan::close_from` meets its contract. The invariant: the scan from here on finds what the whole scan finds. Assumes nothing.
 use mathlib.Core.Path.{_≡_, refl, sym, _∙_}
-use Prim.Native.Nat.{ℕ, _≤_, _<_, _-_}
+use Prim.Native.Nat.{_≤_, _-_}
 use native.Mathlib.Omega.{arith}
 use Rattle.tokens.specs.Slots.{tokensIn}
 use Rattle.tokens.proofs.Storing.{length-tokens}

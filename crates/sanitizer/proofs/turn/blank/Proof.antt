@@ -1,15 +1,10 @@
 -- `sanitizer::turn::blank` meets its contract. The invariant: blanking what is left gives what blanking all gives, whatever the count.
 -- Assumes nothing.
-use mathlib.Core.Path.{_≡_, refl, sym, ap, _∙_}
-use mathlib.Core.List.{List}
-use Prim.Native.Nat.{ℕ, _≤_, _<_, _-_, _+_}
+use mathlib.Core.Path.{_≡_, refl}
+use Prim.Native.Nat.{_≤_, _-_}
 use native.Mathlib.Omega.{arith}
 use lib.ListN.{length}
-use Rattle.tokens.specs.Kinds as kind
-use Rattle.tokens.specs.Slots.{tokensIn, room, Left}
-use Rattle.tokens.specs.declared.slot.Slot.{Slot}
-use Rattle.sanitizer.specs.Run.{blank}
-use Rattle.sanitizer.proofs.Turning.{left-put, blank-step, blank-done, Leads, leads-start, leads-more, leads-done}
+use Rattle.sanitizer.proofs.Turning.{Leads, leads-start, leads-more, leads-done}
 use Rattle.sanitizer.proofs.turn.blank.Statement.{statement}
 use Rattle.sanitizer.proofs.turn.blank.Tie as tie
 

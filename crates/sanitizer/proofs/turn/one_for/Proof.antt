@@ -3,7 +3,6 @@ use Prim.Native.Nat.{_+_, _-_}
 use mathlib.Core.List.{List}
 use native.Mathlib.Omega.{arith}
 use Rattle.tokens.specs.declared.slot.Slot.{Slot}
-use Rattle.tokens.proofs.Storing.{room-stored}
 use Rattle.sanitizer.specs.Run.{blank}
 use Rattle.sanitizer.proofs.Turning.{left-put, left-by}
 use borrow.Author.Needs.{needs}

@@ -1,11 +1,11 @@
 -- `sanitizer::turn::remove_comment` meets its contract: a store, and a second where a Space stands before. Assumes nothing.
-use mathlib.Core.Path.{_≡_, sym, ap, _∙_, subst}
+use Prim.Native.Nat.{_-_}
+use mathlib.Core.Path.{_≡_, sym, _∙_}
 use mathlib.Core.List.{List}
-use Prim.Native.Nat.{ℕ, _-_}
 use native.Mathlib.Omega.{arith}
 use lib.ListN.{set}
 use Rattle.tokens.specs.Kinds as kind
-use Rattle.tokens.specs.Slots.{bare, slotAt, tokensIn, Left}
+use Rattle.tokens.specs.Slots.{bare, tokensIn}
 use Rattle.tokens.specs.declared.slot.Slot.{Slot}
 use Rattle.sanitizer.specs.Scans.{kindBefore}
 use Rattle.sanitizer.proofs.Turning.{left-put, left-by, left-is, comment-first, comment-other, comment-spaced, before-stored}

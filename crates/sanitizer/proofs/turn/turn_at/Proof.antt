@@ -1,16 +1,14 @@
 -- `sanitizer::turn::turn_at` meets its contract: for each thing that an arm does, what the buffer is left as. Assumes nothing.
-use mathlib.Core.Path.{_≡_, refl, sym, ap, _∙_}
+use mathlib.Core.Path.{refl, sym, ap, _∙_}
 use mathlib.Core.Bool.{cond}
-use mathlib.Core.List.{List}
-use Prim.Native.Nat.{ℕ, _+_, _-_}
+use Prim.Native.Nat.{ℕ, _+_}
 use native.Mathlib.Omega.{arith}
 use lib.ListN.{set}
 use Rattle.tokens.specs.Kinds as kind
 use Rattle.tokens.specs.Slots.{bare, tokensIn}
-use Rattle.tokens.specs.declared.slot.Slot.{Slot}
 use Rattle.tokens.proofs.Storing.{left-same}
 use Rattle.sanitizer.specs.declared.arms.Does.the-variants.{Stay, Go, Replace, ReplaceUnlessDotted, ReplaceToClose, CollapseRows, RemoveComment}
-use Rattle.sanitizer.specs.Run.{turnBy, oneFor, blank, dotted}
+use Rattle.sanitizer.specs.Run.{turnBy, oneFor}
 use Rattle.sanitizer.proofs.Scanning.{kind-tokens}
 use Rattle.sanitizer.proofs.Turning.{left-put, turned}
 use borrow.Author.Needs.{needs}
