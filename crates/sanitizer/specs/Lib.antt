@@ -1,0 +1,5 @@
+pub mod Arms
+pub mod Scans
+pub mod Run
+pub mod Exposed
+pub mod Promise
