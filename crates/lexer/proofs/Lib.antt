@@ -1,1 +1,5 @@
+pub mod Characters
+pub mod Reaching
+pub mod ByteScans
+pub mod Classes
 mod Examples

@@ -11,7 +11,8 @@ use Rattle.lexer.specs.declared.rule.State.the-variants.{Default, PastSe
 use Rattle.lexer.specs.declared.rule.Rule.{Rule}
 use Rattle.lexer.specs.declared.rule.Rule.the-variants.{Quoted, Line, Block, Single, Numbered, Run, Charset, Word, Number, Unknown}
 use Rattle.lexer.specs.Ways.{Ways}
-use Rattle.lexer.specs.Scans.{span, quoteLen, inLine, blockLen, inRun, inCharset, inWord, inNumber}
+use Rattle.lexer.specs.declared.ends.Stop.the-variants as stop
+use Rattle.lexer.specs.Scans.{span, quoteLen, inLine, blockLen, inRun, goesOn}
 use Rattle.lexer.specs.Known.{wordKind, runKind, zeroKind}
 
 -- what a token carries: nothing; a slice, from after so many of its characters up to after so many; or a character
@@ -132,7 +133,7 @@ single k = took k nothing 0
 
 -- rule 5
 unfoldable pub numbered : Ways → List ℕ → Out
-numbered w cs = sliced kind.NumberedPlaceholder (span (w .numeric) cs)
+numbered w cs = sliced kind.NumberedPlaceholder (span (goesOn w stop.Numerics) cs)
 
 -- rule 7
 unfoldable pub run : ℕ → List ℕ → Out
@@ -140,15 +141,15 @@ run c cs = let n = span inRun cs in known (runKind (take (suc n) (c ∷ cs))) n 
 
 -- rule 8: without its `_`
 unfoldable pub charset : Ways → List ℕ → Out
-charset w cs = let n = span (inCharset w) cs in took kind.Charset (slice 1 (suc n)) n
+charset w cs = let n = span (goesOn w stop.Charset) cs in took kind.Charset (slice 1 (suc n)) n
 
 -- rule 9
 unfoldable pub word : Ways → ℕ → List ℕ → Out
-word w c cs = let n = span (inWord w) cs in known (wordKind (take (suc n) (c ∷ cs))) n (sliced kind.Other n)
+word w c cs = let n = span (goesOn w stop.Word) cs in known (wordKind (take (suc n) (c ∷ cs))) n (sliced kind.Other n)
 
 -- rule 10
 unfoldable pub number : Ways → ℕ → List ℕ → Out
-number w c cs = let n = span (inNumber w) cs in known (zeroKind (take (suc n) (c ∷ cs))) n (sliced kind.Numeric n)
+number w c cs = let n = span (goesOn w stop.Number) cs in known (zeroKind (take (suc n) (c ∷ cs))) n (sliced kind.Numeric n)
 
 -- rule 11
 abbrev pub unknown : ℕ → Out

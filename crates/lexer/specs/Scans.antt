@@ -6,6 +6,8 @@ use mathlib.Core.List.{List, [], _∷_}
 use lib.Dec.{eqb}
 use lib.ListN.{drop}
 use Rattle.chars.specs.Utf8.{chars, width}
+use Rattle.lexer.specs.declared.ends.Stop.{Stop}
+use Rattle.lexer.specs.declared.ends.Stop.the-variants.{Numerics, Charset, Word, Number}
 use Rattle.lexer.specs.Ways.{Ways}
 
 -- how many characters a scan goes over: it stops before the first at which `stops` says so of what was seen before it
@@ -75,3 +77,10 @@ unfoldable pub inNumber : Ways → ℕ → Bool
 inNumber w c =
     eqb c (code ".")
     || (eqb c (code "x") || (eqb c (code "X") || (eqb c (code "b") || (eqb c (code "B") || w .numeric c))))
+
+-- the stop rules that ask for a class of characters, by name; rule 5 takes numerics
+unfoldable pub goesOn : Ways → Stop → ℕ → Bool
+goesOn w Numerics c = w .numeric c
+goesOn w Charset c = inCharset w c
+goesOn w Word c = inWord w c
+goesOn w Number c = inNumber w c
