@@ -17,7 +17,7 @@ use Rattle.tokens.specs.Slots as slots
 use Rattle.tokens.specs.declared.slot.Slot.{Slot}
 use Rattle.lexer.specs.Ways.{pinned}
 use Rattle.lexer.specs.Scans.{scan, span, inLine, inRun, inCharset, inWord, inNumber, goesOn}
-use Rattle.lexer.specs.Known.{equal, words, wordKind, runs, runKind, zeros, zeroKind}
+use Rattle.lexer.specs.Known.{equal, words, runs, zeros, rowsOf, knownKind}
 use Rattle.lexer.specs.Rules.{ruleOf, quoted, line, block, numbered, run, charset, word, number, byRule, readOne}
 use Rattle.lexer.specs.Read.{tokens, stopAt, go, reading}
 
@@ -90,6 +90,6 @@ cases =
 
 every-case : all cases ≡ true
 unfolding cases chars charsFrom front joined ranged follows isScalar width encode encodeAll within alphabeticPairs numericPairs alphabetic numeric
-    textOf texts slots.words scan span inLine inRun inCharset inWord inNumber goesOn words wordKind runs runKind zeros zeroKind
+    textOf texts slots.words scan span inLine inRun inCharset inWord inNumber goesOn words runs zeros rowsOf knownKind
     ruleOf quoted line block numbered run charset word number byRule readOne go reading
 every-case = refl

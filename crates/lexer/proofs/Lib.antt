@@ -2,4 +2,5 @@ pub mod Characters
 pub mod Reaching
 pub mod ByteScans
 pub mod Classes
+pub mod Lookup
 mod Examples

@@ -13,7 +13,8 @@ use Rattle.lexer.specs.declared.rule.Rule.the-variants.{Quoted, Line, Bl
 use Rattle.lexer.specs.Ways.{Ways}
 use Rattle.lexer.specs.declared.ends.Stop.the-variants as stop
 use Rattle.lexer.specs.Scans.{span, quoteLen, inLine, blockLen, inRun, goesOn}
-use Rattle.lexer.specs.Known.{wordKind, runKind, zeroKind}
+use Rattle.lexer.specs.declared.known.Sort.the-variants.{Words, Runs, Zeros}
+use Rattle.lexer.specs.Known.{knownKind}
 
 -- what a token carries: nothing; a slice, from after so many of its characters up to after so many; or a character
 pub data Carried : Type 0 where
@@ -137,7 +138,7 @@ numbered w cs = sliced kind.NumberedPlaceholder (span (goesOn w stop.Numerics) c
 
 -- rule 7
 unfoldable pub run : ℕ → List ℕ → Out
-run c cs = let n = span inRun cs in known (runKind (take (suc n) (c ∷ cs))) n halt
+run c cs = let n = span inRun cs in known (knownKind Runs (take (suc n) (c ∷ cs))) n halt
 
 -- rule 8: without its `_`
 unfoldable pub charset : Ways → List ℕ → Out
@@ -145,11 +146,11 @@ charset w cs = let n = span (goesOn w stop.Charset) cs in took kind.Charset (sli
 
 -- rule 9
 unfoldable pub word : Ways → ℕ → List ℕ → Out
-word w c cs = let n = span (goesOn w stop.Word) cs in known (wordKind (take (suc n) (c ∷ cs))) n (sliced kind.Other n)
+word w c cs = let n = span (goesOn w stop.Word) cs in known (knownKind Words (take (suc n) (c ∷ cs))) n (sliced kind.Other n)
 
 -- rule 10
 unfoldable pub number : Ways → ℕ → List ℕ → Out
-number w c cs = let n = span (goesOn w stop.Number) cs in known (zeroKind (take (suc n) (c ∷ cs))) n (sliced kind.Numeric n)
+number w c cs = let n = span (goesOn w stop.Number) cs in known (knownKind Zeros (take (suc n) (c ∷ cs))) n (sliced kind.Numeric n)
 
 -- rule 11
 abbrev pub unknown : ℕ → Out
