@@ -3,4 +3,5 @@ pub mod Reaching
 pub mod ByteScans
 pub mod Classes
 pub mod Lookup
+pub mod Choice
 mod Examples

@@ -115,6 +115,16 @@ others w c = cond (w .alphabetic c) Word (cond (eqb c (code "-") || w .numeric c
 unfoldable pub ruleOf : Ways → State → ℕ → List ℕ → Rule
 ruleOf w state c cs = quotes c (comments c cs (singles c (arithmetic w state c cs (operators c (others w c)))))
 
+-- the same at `#`, `-` and `/`, where two rules or three may fit
+abbrev pub atHash : List ℕ → Rule
+atHash cs = cond (headIs (λ d. eqb d (code ">")) cs) Run Line
+
+abbrev pub atDash : Ways → List ℕ → Rule
+atDash w cs = cond (headIs (λ d. eqb d (code "-")) cs) Line (cond (headIs (w .numeric) cs) Number (Single kind.Minus))
+
+abbrev pub atSlash : List ℕ → Rule
+atSlash cs = cond (headIs (λ d. eqb d (code "*")) cs) Block (Single kind.Divide)
+
 -- ---- what each rule reads
 -- rule 1: the content without its quotes
 unfoldable pub quoted : ℕ → ℕ → List ℕ → Out
