@@ -4,4 +4,6 @@ pub mod ByteScans
 pub mod Classes
 pub mod Lookup
 pub mod Choice
+pub mod Spelling
+pub mod Steps
 mod Examples

@@ -3,6 +3,7 @@
 -- reach-stop, -step    one character: the count ends before it, or goes on after it
 -- reach-le, reach-in   it is not before the start, and within the text
 -- reach-rest           the characters from there on
+-- whole-reach          where the rest was whole it is whole again
 -- span-on, span-off    one turn of a scan by a test
 -- Assumes nothing.
 use mathlib.Core.Path.{_≡_, refl, sym, ap, _∙_}
@@ -15,7 +16,8 @@ use lib.ListN.{length, drop, drop-of-length-le}
 use Rattle.chars.specs.Utf8.{chars, charsFrom, width}
 use Rattle.chars.proofs.Stepping.{Stepped}
 use Rattle.lexer.specs.Scans.{scan, span, bytes, reach}
-use Rattle.lexer.proofs.Characters.{View, here, past, view}
+use Rattle.lexer.specs.Read.{Whole}
+use Rattle.lexer.proofs.Characters.{View, here, past, view, whole-step}
 
 pub chars-end : (t : List ℕ) (at : ℕ) → length t ≤ at → chars (drop at t) ≡ []
 unfolding chars charsFrom
@@ -81,3 +83,16 @@ module _ (p : ℕ → Bool) (t : List ℕ) (at s next : ℕ) (q : Stepped t at s
   pub span-off : p s ≡ false → reach (span p) t at ≡ at
   unfolding span scan
   span-off e = reach-stop (span p) t at s next q (rw e)
+
+-- where the rest of the text was whole it is whole again
+whole-bytes : (n : ℕ) (t : List ℕ) (at : ℕ) → Whole t at → Whole t (at + bytes n (chars (drop at t)))
+whole-bytes zero t at w = rw add-zero w
+whole-bytes (suc n) t at w = go (view t at) (whole-bytes n t)
+  where
+    go : View t at → ((b : ℕ) → Whole t b → Whole t (b + bytes n (chars (drop b t)))) → Whole t (at + bytes (suc n) (chars (drop at t)))
+    go (here s next p e) ih = rw (p .reads, ← add-assoc, ← p .wide) (ih next (whole-step t at s next w p e))
+    go (past e) ih = rw (e, add-zero) w
+
+pub whole-reach : (f : List ℕ → ℕ) (t : List ℕ) (at : ℕ) → Whole t at → Whole t (reach f t at)
+unfolding reach
+whole-reach f t at w = whole-bytes (f (chars (drop at t))) t at w

@@ -16,15 +16,20 @@ use Rattle.lexer.specs.declared.rule.State.the-variants.{Default}
 use Rattle.lexer.specs.declared.read.Step.{Step}
 use Rattle.lexer.specs.declared.read.Step.the-variants.{Token, Stopped}
 use Rattle.lexer.specs.declared.lex.Walked.{Walked}
-use Rattle.lexer.specs.Ways.{Ways}
-use Rattle.lexer.specs.Scans.{bytes}
+use Rattle.lexer.specs.declared.ends.Stop.the-variants.{Number}
+use Rattle.lexer.specs.Ways.{Ways, pinned}
+use Rattle.lexer.specs.Scans.{bytes, span, reach, goesOn}
 use Rattle.lexer.specs.Rules.{Carried, nothing, slice, scalar, Out, halt, took, readOne, stateAfter}
+
+-- a token that carries a start and an end offset
+abbrev pub partOf : ℕ → ℕ → ℕ → Slot
+partOf k start end = record { kind = k; first = start; second = end }
 
 -- the token that is read at the offset at, where the characters cs stand
 abbrev pub slotOf : ℕ → List ℕ → ℕ → Carried → Slot
 slotOf at cs k nothing = bare k
-slotOf at cs k (slice from to) = record { kind = k; first = at + bytes from cs; second = at + bytes to cs }
-slotOf at cs k (scalar c) = record { kind = k; first = c; second = 0 }
+slotOf at cs k (slice from to) = partOf k (at + bytes from cs) (at + bytes to cs)
+slotOf at cs k (scalar c) = partOf k c 0
 
 -- tokens, and the offset where the reading stopped
 pub data Reading : Type 0 where
@@ -96,6 +101,10 @@ pub record Ascii (text : List ℕ) (at : ℕ) : Type 0 where
 pub record Leads (passes : ℕ → Bool) (text : List ℕ) (at : ℕ) : Type 0 where
   pub readable : Readable text at
   pub leads : onChars false (λ c cs. passes c) (chars (drop at text)) ≡ true
+
+-- where the scan of a number starts: past a `-`, or at its first character
+pub record NumberFrom (text : List ℕ) (at from : ℕ) : Type 0 where
+  pub same : reach (span (goesOn pinned Number)) text from ≡ at + bytes (suc (span (goesOn pinned Number) (drop 1 (chars (drop at text))))) (chars (drop at text))
 
 -- the number of tokens and the stop
 abbrev pub walkedOf : Reading → Walked

@@ -109,8 +109,14 @@ operators c other =
     (cond (eqb c (code "_")) Charset other)))))))
 
 -- rules 9, 10 and 11
+abbrev pub startsWord : Ways → ℕ → Bool
+startsWord w c = w .alphabetic c
+
+abbrev pub startsNumber : Ways → ℕ → Bool
+startsNumber w c = eqb c (code "-") || w .numeric c
+
 abbrev pub others : Ways → ℕ → Rule
-others w c = cond (w .alphabetic c) Word (cond (eqb c (code "-") || w .numeric c) Number Unknown)
+others w c = cond (startsWord w c) Word (cond (startsNumber w c) Number Unknown)
 
 unfoldable pub ruleOf : Ways → State → ℕ → List ℕ → Rule
 ruleOf w state c cs = quotes c (comments c cs (singles c (arithmetic w state c cs (operators c (others w c)))))
