@@ -6,4 +6,6 @@ pub mod Lookup
 pub mod Choice
 pub mod Spelling
 pub mod Steps
+pub mod Turns
+pub mod Answering
 mod Examples

@@ -2,13 +2,13 @@
 use Prim.Native.Nat.{ℕ, zero, suc, _+_, _-_, _≤_, _<_}
 use Prim.Native.Char.{code}
 use mathlib.Core.Path.{_≡_}
-use mathlib.Core.Bool.{Bool, true, false}
+use mathlib.Core.Bool.{Bool, true, false, cond}
 use mathlib.Core.List.{List, [], _∷_}
-use lib.Dec.{eqb}
+use lib.Dec.{eqb, ltb}
 use lib.ListN.{length, drop, getD}
 use Rattle.chars.specs.Utf8.{chars, width, encodeAll}
 use Rattle.chars.specs.Steps.{offset}
-use Rattle.tokens.specs.Slots.{bare}
+use Rattle.tokens.specs.Slots.{bare, stored}
 use Rattle.tokens.specs.Answers.{limit}
 use Rattle.tokens.specs.declared.slot.Slot.{Slot}
 use Rattle.lexer.specs.declared.rule.State.{State}
@@ -109,3 +109,7 @@ pub record NumberFrom (text : List ℕ) (at from : ℕ) : Type 0 where
 -- the number of tokens and the stop
 abbrev pub walkedOf : Reading → Walked
 walkedOf r = record { tokens = length (tokens r); stop = offset (stopAt r) }
+
+-- the words with a token stored, where its place is below upto
+abbrev pub kept : List ℕ → ℕ → ℕ → Slot → List ℕ
+kept ws upto n t = cond (ltb n upto) (stored ws n t) ws
