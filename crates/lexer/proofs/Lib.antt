@@ -1,0 +1,11 @@
+pub mod Characters
+pub mod Reaching
+pub mod ByteScans
+pub mod Classes
+pub mod Lookup
+pub mod Choice
+pub mod Spelling
+pub mod Steps
+pub mod Turns
+pub mod Answering
+mod Examples

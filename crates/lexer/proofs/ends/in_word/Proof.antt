@@ -1,0 +1,24 @@
+-- `lexer::ends::in_word` meets its contract. Assumes nothing.
+use mathlib.Core.Path.{_≡_, sym, ap, _∙_}
+use borrow.Author.Needs.{needs}
+use Rattle.lexer.specs.Scans.{goesOn, inWord}
+use Rattle.lexer.proofs.Classes.{word-out}
+use Rattle.lexer.proofs.ends.in_word.Statement.{statement}
+use Rattle.lexer.proofs.ends.in_word.Tie as tie
+
+alphanumeric-requires : tie.Need-alphanumeric-requires
+alphanumeric-requires c κs = search needs
+
+returns : tie.Need-returns
+unfolding goesOn inWord
+returns c = rw (c .match .keys1)
+
+returns-2 : tie.Need-returns-2
+unfolding goesOn inWord
+returns-2 c = rw (c .match .keys2)
+
+returns-3 : tie.Need-returns-3
+returns-3 c = c .alphanumeric .ensures ∙ sym (word-out _ (c .before .match .rest .0 .1) (c .before .match .rest .1))
+
+pub in-word-spec : {M : Type 1} → statement M
+in-word-spec = tie.close (tie.spec alphanumeric-requires returns returns-2 returns-3)
