@@ -39,7 +39,23 @@ pub struct Answer {
 // as a value returned, since the same module compiled for another processor (tools/archive) keeps that order.
 #[link(name = "sql_lexer_c", kind = "static")]
 extern "C" {
+    fn hay_lex(answer: *mut Answer, text: *const u8, text_len: usize, slots: *mut u32, words: usize);
+    fn hay_sanitize(answer: *mut Answer, slots: *mut u32, words: usize, count: usize);
     fn hay_write(answer: *mut Answer, text: *const u8, text_len: usize, slots: *const u32, words: usize, count: usize, out: *mut u8, out_len: usize);
+}
+
+#[cfg_attr(not(rust_source), allow(dead_code))]
+pub fn lex(text: &[u8], slots: &mut [u32]) -> Answer {
+    let mut answer = Answer::default();
+    unsafe { hay_lex(&mut answer, text.as_ptr(), text.len(), slots.as_mut_ptr(), slots.len()) };
+    answer
+}
+
+#[cfg_attr(not(rust_source), allow(dead_code))]
+pub fn sanitize(slots: &mut [u32], count: usize) -> Answer {
+    let mut answer = Answer::default();
+    unsafe { hay_sanitize(&mut answer, slots.as_mut_ptr(), slots.len(), count) };
+    answer
 }
 
 #[cfg_attr(not(rust_source), allow(dead_code))]

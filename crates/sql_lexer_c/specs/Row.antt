@@ -14,6 +14,14 @@ abbrev pub inNumbers : (List ℕ → HayAnswer) → Answer → HayAnswer
 inNumbers row (done ns) = row ns
 inNumbers row (refused k d) = refusedRow k d
 
+-- reading answers the token count and the stop offset
+abbrev pub ofReading : List ℕ → HayAnswer
+ofReading ns = record { refusal = 0; detail = 0; tokens = getD ns 0 0; stop = getD ns 1 0; exposed = 0; length = 0 }
+
+-- sanitising answers the exposed count
+abbrev pub ofSanitising : List ℕ → HayAnswer
+ofSanitising ns = record { refusal = 0; detail = 0; tokens = 0; stop = 0; exposed = getD ns 0 0; length = 0 }
+
 -- writing answers the text's length
 abbrev pub ofWriting : List ℕ → HayAnswer
 ofWriting ns = record { refusal = 0; detail = 0; tokens = 0; stop = 0; exposed = 0; length = getD ns 0 0 }

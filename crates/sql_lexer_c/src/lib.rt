@@ -1,14 +1,21 @@
 // The calls for Rust and C: `extern "C"` over the crates below. Nothing is decided here; an answer becomes the paper's numbers.
+use lexer::lex::Lexed;
+use sanitizer::Sanitized;
 use tokens::refusal::Refusal;
 use writer::Wrote;
 ghost use mathlib.Core.Path.{_≡_};
+ghost use mathlib.Core.List.{List};
+ghost use Prim.Native.Nat.{ℕ};
 ghost use lib.ListN.{length};
+ghost use Rattle.lexer.specs.Ways.{pinned};
+ghost use Rattle.lexer.specs.Lexes.{lexAnswer, lexBuffer};
+ghost use Rattle.sanitizer.specs.Promise.{sanitizeAnswer, sanitizeBuffer};
 ghost use Rattle.tokens.specs.Answers.{refusal};
 ghost use Rattle.tokens.specs.Checks.{afterwards};
-ghost use Rattle.tokens.specs.Slots.{tokensIn};
+ghost use Rattle.tokens.specs.Slots.{room, tokensIn};
 ghost use Rattle.writer.specs.Written.{written, onto};
 ghost use Rattle.writer.specs.Promise.{writeAnswer};
-ghost use Rattle.sql_lexer_c.specs.Row.{refusedRow, inNumbers, ofWriting};
+ghost use Rattle.sql_lexer_c.specs.Row.{refusedRow, inNumbers, ofReading, ofSanitising, ofWriting};
 
 // An answer: a refusal, 1 to 7, and its detail; or refusal 0, and the numbers that the call answers with. A field that an answer
 // does not have is 0.
@@ -37,7 +44,7 @@ fn refused(number: u64, detail: usize) -> HayAnswer
 
 // A refusal's number and detail.
 fn refusal_numbers(why: Refusal) -> HayAnswer
-    ensures { λ r. ⌜ r ≡ inNumbers ofWriting (refusal why) ⌝ }
+    ensures { λ r. ⌜ ((row : List ℕ → HayAnswer) → r ≡ inNumbers row (refusal why)) ⌝ }
 {
     match why {
         Refusal::TextTooLong(length) => refused(1, length),
@@ -47,6 +54,44 @@ fn refusal_numbers(why: Refusal) -> HayAnswer
         Refusal::BadToken(place) => refused(5, place.0),
         Refusal::CutChar(place) => refused(6, place.0),
         Refusal::NoRoomOut(needed) => refused(7, needed),
+    }
+}
+
+#[no_mangle]
+pub extern "C" fn hay_lex(text: &[u8], slots: &mut [u32]) -> HayAnswer
+    ensures { λ r. ⌜ r ≡ inNumbers ofReading (lexAnswer pinned (now (text .entry)) (room (now (slots .entry)))) ⌝ }
+    ensures { λ r. ⌜ now (slots .exit) ≡ lexBuffer pinned (now (text .entry)) (now (slots .entry)) ⌝ }
+{
+    let answer = lexer::lex::lex(text, slots);
+    match answer {
+        Lexed::Done(tokens, stop) => HayAnswer {
+            refusal: 0,
+            detail: 0,
+            tokens: tokens as u64,
+            stop: stop.0 as u64,
+            exposed: 0,
+            length: 0,
+        },
+        Lexed::Refused(why) => refusal_numbers(why),
+    }
+}
+
+#[no_mangle]
+pub extern "C" fn hay_sanitize(slots: &mut [u32], count: usize) -> HayAnswer
+    ensures { λ r. ⌜ r ≡ inNumbers ofSanitising (sanitizeAnswer (now (slots .entry)) count) ⌝ }
+    ensures { λ r. ⌜ now (slots .exit) ≡ sanitizeBuffer (now (slots .entry)) count ⌝ }
+{
+    let answer = sanitizer::sanitize(slots, count);
+    match answer {
+        Sanitized::Done(exposed) => HayAnswer {
+            refusal: 0,
+            detail: 0,
+            tokens: 0,
+            stop: 0,
+            exposed: exposed as u64,
+            length: 0,
+        },
+        Sanitized::Refused(why) => refusal_numbers(why),
     }
 }
 

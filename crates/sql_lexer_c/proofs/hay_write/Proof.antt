@@ -33,7 +33,7 @@ same-length-2 c = search needs
 returns-2 : tie.Need-returns-2
 returns-2 c =
     let e = c .before .before .before .before .before .before .write .ensures in
-    (c .refusal-numbers .ensures ∙ sym (ap (λ (r : Wrote). inNumbers ofWriting (paper r)) (c .before .before .answer2 .given .1)) ∙ ap (inNumbers ofWriting) (e .answer), e .buffer)
+    (c .refusal-numbers .ensures ofWriting ∙ sym (ap (λ (r : Wrote). inNumbers ofWriting (paper r)) (c .before .before .answer2 .given .1)) ∙ ap (inNumbers ofWriting) (e .answer), e .buffer)
 
 pub hay-write-spec : {M : Type 1} → statement M
 hay-write-spec =

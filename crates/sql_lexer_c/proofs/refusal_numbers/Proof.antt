@@ -2,7 +2,7 @@
 use mathlib.Core.Path.{sym, ap, _∙_}
 use Rattle.tokens.specs.Answers.{refusal}
 use Rattle.tokens.specs.declared.refusal.Refusal.{Refusal}
-use Rattle.sql_lexer_c.specs.Row.{inNumbers, ofWriting}
+use Rattle.sql_lexer_c.specs.Row.{inNumbers}
 use borrow.Author.Needs.{needs}
 use Rattle.sql_lexer_c.proofs.refusal_numbers.Statement.{statement}
 use Rattle.sql_lexer_c.proofs.refusal_numbers.Tie as tie
@@ -50,25 +50,25 @@ refused-requires-7 : tie.Need-refused-requires-7
 refused-requires-7 c κs = search needs
 
 returns : tie.Need-returns
-returns c = c .refused .ensures ∙ sym (ap (λ (r : Refusal). inNumbers ofWriting (refusal r)) (c .before .before .why .given .1))
+returns c row = c .refused .ensures ∙ sym (ap (λ (r : Refusal). inNumbers row (refusal r)) (c .before .before .why .given .1))
 
 returns-2 : tie.Need-returns-2
-returns-2 c = c .refused2 .ensures ∙ sym (ap (λ (r : Refusal). inNumbers ofWriting (refusal r)) (c .before .before .why2 .given .1))
+returns-2 c row = c .refused2 .ensures ∙ sym (ap (λ (r : Refusal). inNumbers row (refusal r)) (c .before .before .why2 .given .1))
 
 returns-3 : tie.Need-returns-3
-returns-3 c = c .refused3 .ensures ∙ sym (ap (λ (r : Refusal). inNumbers ofWriting (refusal r)) (c .before .before .why3 .given .1))
+returns-3 c row = c .refused3 .ensures ∙ sym (ap (λ (r : Refusal). inNumbers row (refusal r)) (c .before .before .why3 .given .1))
 
 returns-4 : tie.Need-returns-4
-returns-4 c = c .refused4 .ensures ∙ sym (ap (λ (r : Refusal). inNumbers ofWriting (refusal r)) (c .before .before .why4 .given .1))
+returns-4 c row = c .refused4 .ensures ∙ sym (ap (λ (r : Refusal). inNumbers row (refusal r)) (c .before .before .why4 .given .1))
 
 returns-5 : tie.Need-returns-5
-returns-5 c = c .refused5 .ensures ∙ sym (ap (λ (r : Refusal). inNumbers ofWriting (refusal r)) (c .before .before .why5 .given .1))
+returns-5 c row = c .refused5 .ensures ∙ sym (ap (λ (r : Refusal). inNumbers row (refusal r)) (c .before .before .why5 .given .1))
 
 returns-6 : tie.Need-returns-6
-returns-6 c = c .refused6 .ensures ∙ sym (ap (λ (r : Refusal). inNumbers ofWriting (refusal r)) (c .before .before .why6 .given .1))
+returns-6 c row = c .refused6 .ensures ∙ sym (ap (λ (r : Refusal). inNumbers row (refusal r)) (c .before .before .why6 .given .1))
 
 returns-7 : tie.Need-returns-7
-returns-7 c = c .refused7 .ensures ∙ sym (ap (λ (r : Refusal). inNumbers ofWriting (refusal r)) (c .before .before .why7 .given .1))
+returns-7 c row = c .refused7 .ensures ∙ sym (ap (λ (r : Refusal). inNumbers row (refusal r)) (c .before .before .why7 .given .1))
 
 pub refusal-numbers-spec : {M : Type 1} → statement M
 refusal-numbers-spec =

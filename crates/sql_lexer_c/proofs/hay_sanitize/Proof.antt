@@ -1,11 +1,11 @@
--- `sanitizer_c::hay_sanitize` meets its contract: the answer of `sanitize` in numbers. Assumes nothing.
+-- `sql_lexer_c::hay_sanitize` meets its contract: the answer of `sanitize` in numbers. Assumes nothing.
 use mathlib.Core.Path.{sym, ap, _∙_}
 use Rattle.sanitizer.specs.Promise.{paper}
 use Rattle.sanitizer.specs.declared.Sanitized.{Sanitized}
-use Rattle.sanitizer_c.specs.Answers.{numbers}
+use Rattle.sql_lexer_c.specs.Row.{inNumbers, ofSanitising}
 use borrow.Author.Needs.{needs}
-use Rattle.sanitizer_c.proofs.hay_sanitize.Statement.{statement}
-use Rattle.sanitizer_c.proofs.hay_sanitize.Tie as tie
+use Rattle.sql_lexer_c.proofs.hay_sanitize.Statement.{statement}
+use Rattle.sql_lexer_c.proofs.hay_sanitize.Tie as tie
 
 sanitize-requires : tie.Need-sanitize-requires
 sanitize-requires c κs = search needs
@@ -25,7 +25,7 @@ same-length c = search needs
 returns : tie.Need-returns
 returns c =
     let e = c .before .before .before .before .before .sanitize .ensures in
-    (sym (ap (λ (r : Sanitized). numbers (paper r)) (c .before .answer .given .1)) ∙ ap numbers (e .answer), e .buffer)
+    (sym (ap (λ (r : Sanitized). inNumbers ofSanitising (paper r)) (c .before .answer .given .1)) ∙ ap (inNumbers ofSanitising) (e .answer), e .buffer)
 
 same-length-2 : tie.Need-same-length-2
 same-length-2 c = search needs
@@ -33,7 +33,7 @@ same-length-2 c = search needs
 returns-2 : tie.Need-returns-2
 returns-2 c =
     let e = c .before .before .before .before .before .before .sanitize .ensures in
-    (c .refusal-numbers .ensures ∙ sym (ap (λ (r : Sanitized). numbers (paper r)) (c .before .before .answer2 .given .1)) ∙ ap numbers (e .answer), e .buffer)
+    (c .refusal-numbers .ensures ofSanitising ∙ sym (ap (λ (r : Sanitized). inNumbers ofSanitising (paper r)) (c .before .before .answer2 .given .1)) ∙ ap (inNumbers ofSanitising) (e .answer), e .buffer)
 
 pub hay-sanitize-spec : {M : Type 1} → statement M
 hay-sanitize-spec =
