@@ -2,6 +2,7 @@
 // Where the ported Rust's source is at hand it is built with `--cfg rust_source`.
 // One module a subject: it counts what it ran and each difference, and a difference ends the program with status 1.
 mod chars;
+#[allow(dead_code)]
 mod ours;
 mod random;
 mod report;

@@ -23,7 +23,6 @@ extern "C" {
 }
 
 // As sql_lexer_c declares it: a refusal and its detail, or refusal 0 and the numbers that the call answers with.
-#[cfg_attr(not(rust_source), allow(dead_code))]
 #[repr(C)]
 #[derive(PartialEq, Eq, Debug, Clone, Copy, Default)]
 pub struct Answer {
@@ -44,21 +43,18 @@ extern "C" {
     fn hay_write(answer: *mut Answer, text: *const u8, text_len: usize, slots: *const u32, words: usize, count: usize, out: *mut u8, out_len: usize);
 }
 
-#[cfg_attr(not(rust_source), allow(dead_code))]
 pub fn lex(text: &[u8], slots: &mut [u32]) -> Answer {
     let mut answer = Answer::default();
     unsafe { hay_lex(&mut answer, text.as_ptr(), text.len(), slots.as_mut_ptr(), slots.len()) };
     answer
 }
 
-#[cfg_attr(not(rust_source), allow(dead_code))]
 pub fn sanitize(slots: &mut [u32], count: usize) -> Answer {
     let mut answer = Answer::default();
     unsafe { hay_sanitize(&mut answer, slots.as_mut_ptr(), slots.len(), count) };
     answer
 }
 
-#[cfg_attr(not(rust_source), allow(dead_code))]
 pub fn write(text: &[u8], slots: &[u32], count: usize, out: &mut [u8]) -> Answer {
     let mut answer = Answer::default();
     unsafe { hay_write(&mut answer, text.as_ptr(), text.len(), slots.as_ptr(), slots.len(), count, out.as_mut_ptr(), out.len()) };
