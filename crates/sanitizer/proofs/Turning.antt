@@ -26,7 +26,8 @@ use Rattle.sanitizer.specs.declared.arms.Does.{Does}
 use Rattle.sanitizer.specs.declared.arms.Arm.{Arm}
 use Rattle.sanitizer.specs.Arms.{armOf, doesOf, arm}
 use Rattle.sanitizer.specs.Scans.{kindAt, kindBefore}
-use Rattle.sanitizer.specs.Run.{turn, turnBy, Turned, run, sanitized, blank, uncommented, Blanked}
+use Rattle.sanitizer.specs.Run.{turn, turnBy, run, sanitized, blank, uncommented}
+use Rattle.sanitizer.specs.Contracts.{Turned, Blanked}
 use Rattle.sanitizer.proofs.Scanning.{kindOf, kind-tokens, before-is, before-first}
 
 -- ---- changes to the buffer

@@ -69,6 +69,7 @@ pub record Rule : Type 0 where
   pub states : State → Bool
   pub does : Does
 
+-- a rule, by its parts
 abbrev pub rule : (ℕ → Bool) → (State → Bool) → Does → Rule
 rule ks ss d = record { kinds = ks; states = ss; does = d }
 

@@ -1,12 +1,11 @@
 -- The sanitiser: the table's turns over a list of tokens. Assumes nothing.
 use mathlib.Core.Bool.{Bool, true, _||_, cond}
 use mathlib.Core.List.{List}
-use Prim.Native.Nat.{ℕ, zero, suc, _+_, _≤_, _<_, _-_}
-use mathlib.Core.Path.{_≡_}
+use Prim.Native.Nat.{ℕ, zero, suc, _+_, _-_, _≤_}
 use lib.Dec.{ltb, eqb}
 use lib.ListN.{length, set}
 use Rattle.tokens.specs.Kinds as kind
-use Rattle.tokens.specs.Slots.{bare, room, tokensIn, Left}
+use Rattle.tokens.specs.Slots.{bare}
 use Rattle.tokens.specs.declared.slot.Slot.{Slot}
 use Rattle.sanitizer.specs.declared.arms.State.{State}
 use Rattle.sanitizer.specs.declared.arms.State.the-variants.{Default}
@@ -40,10 +39,12 @@ pub record Step : Type 0 where
   pub next : ℕ
   pub state : State
 
+-- a step, by its parts
 abbrev pub step : List Slot → ℕ → State → Step
 step ts p s = record { left = ts; next = p; state = s }
 
--- one turn at place p in state s, by what the arm does
+-- one turn at place p in state s, by what the arm does; a scan begins one place on (from place p itself, where the Rust begins it, it
+-- finds the same: proofs/Starts.antt)
 unfoldable pub turnBy : Does → List Slot → ℕ → State → Step
 unfolding closeFrom rowsFrom blank
 turnBy Stay ts p s = step ts (p + 1) s
@@ -71,25 +72,3 @@ sanitized ts = run (length ts) ts 0 Default
 -- every kind is one of the 84
 abbrev pub Known : List Slot → Type 0
 Known ts = (i : ℕ) → kindAt ts i ≤ kind.Unknown
-
--- What blanking the places from p up to e leaves of any n slots that hold them.
-abbrev pub Blanked : List ℕ → List ℕ → ℕ → ℕ → Type 0
-Blanked before after p e = (n : ℕ) → e ≤ n → n ≤ room before → Left n before after (blank p (e - p) (tokensIn before n))
-
--- What putting one token of kind k for the places from p up to e leaves.
-abbrev pub Covered : ℕ → List ℕ → List ℕ → ℕ → ℕ → Type 0
-Covered k before after p e = (n : ℕ) → e ≤ n → n ≤ room before → Left n before after (oneFor k (tokensIn before n) p e)
-
--- What removing the comment at place p leaves.
-abbrev pub Uncommented : List ℕ → List ℕ → ℕ → Type 0
-Uncommented before after p =
-    (n : ℕ) → p < n → n ≤ room before → Left n before after (uncommented (tokensIn before n) p)
-
--- What the code of a turn at place p leaves of n slots: what the step says, in the buffer and in its answer, and the next place is a
--- later one, at most one past the end.
-pub record Turned (n : ℕ) (before after : List ℕ) (p : ℕ) (t : Step) (next : ℕ) (state : State) : Type 0 where
-  pub left : Left n before after (t .left)
-  pub next-is : next ≡ t .next
-  pub state-is : state ≡ t .state
-  pub later : p < next
-  pub near : next ≤ n + 1

@@ -39,7 +39,7 @@ pub enum Does {
 }
 
 // An arm: its number, 1 to 32, and what it does.
-pub struct Arm(pub u32, pub Does);
+pub struct Arm(pub usize, pub Does);
 
 // Operator(_).
 fn operator(state: State, kind: u32) -> Arm

@@ -1,4 +1,4 @@
-// One turn of the sanitiser: the arm that takes the token at a place, carried out. Document 01, "sanitizer.rs"; specs/Run.antt.
+// One turn of the sanitiser: the arm that takes the token at a place, carried out. Document 01, "sanitizer.rs"; specs/Run.antt, specs/Contracts.antt.
 use crate::arms::Does;
 use crate::arms::State;
 use crate::arms::choose;
@@ -15,7 +15,8 @@ ghost use Prim.Native.Nat.{_≤_, _<_, _+_};
 ghost use Rattle.tokens.specs.Kinds as kinds;
 ghost use Rattle.tokens.specs.Slots.{room, bare, stored, tokensIn};
 ghost use Rattle.sanitizer.specs.Scans.{kindAt};
-ghost use Rattle.sanitizer.specs.Run.{turn, Turned, Blanked, Covered, Uncommented};
+ghost use Rattle.sanitizer.specs.Run.{turn};
+ghost use Rattle.sanitizer.specs.Contracts.{Turned, Blanked, Covered, Uncommented};
 
 // Where to read next, and in which state.
 pub struct Turn {
