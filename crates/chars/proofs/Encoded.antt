@@ -1,15 +1,17 @@
--- The characters of an encoded list of scalar values are those values, and it has no bad byte: the definition of `chars` is RFC 3629's.
+-- An encoded list of scalar values is read as those values: the definition of `chars` is RFC 3629's.
+-- chars-encoded  its characters are the values
+-- encoded-valid  it has no bad byte
 -- Assumes nothing.
-use mathlib.Core.Path.{_≡_, refl, sym, ap, _∙_}
-use mathlib.Core.Bool.{Bool, true, false, cond, _&&_}
-use mathlib.Core.Option.{Option, none}
+use mathlib.Core.Path.{_≡_, refl, ap, _∙_}
+use mathlib.Core.Bool.{Bool, true, false}
+use mathlib.Core.Option.{none}
 use mathlib.Core.List.{List, [], _∷_, _++_}
-use Prim.Native.Nat.{ℕ, zero, suc, _+_, _-_, _≤_, _<_}
+use Prim.Native.Nat.{ℕ, suc, _+_, _-_, _<_}
 use native.Mathlib.Omega.{arith}
 use lib.Dec.{ltb}
-use lib.ListN.{length, drop}
+use lib.ListN.{length}
 use lib.Seq.{drop-append-seam}
-use Rattle.chars.specs.Utf8.{front, char, chars, charsFrom, badFrom, firstBad, isScalar, encode, encodeAll, allScalars}
+use Rattle.chars.specs.Utf8.{chars, charsFrom, badFrom, firstBad, isScalar, encode, encodeAll, allScalars}
 use Rattle.chars.proofs.Bytes.{and-l, and-r}
 use Rattle.chars.proofs.Scalars.{read-back}
 use Rattle.chars.proofs.Stepping.{front-chars, front-bad}

@@ -1,21 +1,23 @@
 -- Following bytes, joined one by one: what the loop of `sequence` keeps, and the shifts and masks that join.
+-- join-bits                                  the shift, the mask and the or of one turn
+-- drop-at                                    a text from an offset on is its byte there and the rest
+-- joined-next, -short, -stray, -more         one following byte more, or none
+-- small-start, Joining, joining-more .. -done  the invariant: how it starts, goes on and ends
+-- answer-none .. answer-no-scalar            the answer from the joined bits
 -- Assumes nothing.
-use mathlib.Core.Path.{_≡_, refl, sym, ap, _∙_, subst}
-use mathlib.Core.Bool.{Bool, true, false, cond, _&&_, _||_}
+use mathlib.Core.Path.{_≡_, sym, ap, _∙_}
+use mathlib.Core.Bool.{true, false}
 use mathlib.Core.Option.{Option, none, some}
-use mathlib.Core.List.{List, [], _∷_}
-use Prim.Native.Nat.{ℕ, zero, suc, _+_, _-_, _*_, _/_, _%_, _^_, _≤_, _<_}
+use mathlib.Core.List.{List, _∷_}
+use Prim.Native.Nat.{ℕ, zero, suc, _+_, _-_, _*_, _%_, _^_, _≤_, _<_}
 use native.Mathlib.Numerals.{add-one}
 use native.Mathlib.Omega.{arith}
 use lib.Bits.{bitAnd, bitOr, and-mask, or-shifted}
-use lib.Dec.{leb, ltb}
 use lib.ListN.{length, getD, drop, drop-of-length-le}
 use lib.Seq.{drop-cons}
 use borrow.Author.Tests.{le-leb, lt-leb}
-use Rattle.chars.specs.declared.utf8.Step.{Step}
-use Rattle.chars.specs.declared.utf8.Step.the-variants.{Char, Bad, End}
-use Rattle.chars.specs.Utf8.{follows, isScalar, joined, ranged, char, bad}
-use Rattle.chars.specs.Steps.{offset, placed}
+use Rattle.chars.specs.Utf8.{follows, isScalar, joined, ranged}
+use Rattle.chars.specs.Steps.{scalarOf}
 use Rattle.chars.proofs.Bytes.{follows-range}
 
 -- ---- the bits
@@ -29,7 +31,7 @@ join-bits x b hx e =
 pub drop-at : (t : List ℕ) (at : ℕ) → at < length t → drop at t ≡ getD t at 0 ∷ drop (at + 1) t
 drop-at t at h = rw (add-one, drop-cons t at 0 h)
 
-joined-next : (t : List ℕ) (at n x : ℕ) → at < length t → follows (getD t at 0) ≡ true
+pub joined-next : (t : List ℕ) (at n x : ℕ) → at < length t → follows (getD t at 0) ≡ true
     → joined (suc n) x (drop at t) ≡ joined n (x * 64 + (getD t at 0 - 0x80)) (drop (at + 1) t)
 unfolding joined
 joined-next t at n x h e = rw (drop-at t at h, e)
@@ -107,21 +109,21 @@ module _ {t : List ℕ} {from count lead x at n : ℕ} (j : Joining t from count
   joining-place h = omega (arith, j .place)
 
 -- ---- the answer from the joined bits
-module _ (from count least : ℕ) (o : Option ℕ) where
-  pub answer-none : o ≡ none → Bad ≡ placed from (ranged count least o)
-  unfolding ranged
+module _ (count least : ℕ) (o : Option ℕ) where
+  pub answer-none : o ≡ none → 0 ≡ scalarOf (ranged count least o)
+  unfolding scalarOf ranged
   answer-none e = rw e
 
   module _ (x : ℕ) (e : o ≡ some x) where
-    pub answer-overlong : x < least → Bad ≡ placed from (ranged count least o)
-    unfolding ranged
+    pub answer-overlong : x < least → 0 ≡ scalarOf (ranged count least o)
+    unfolding scalarOf ranged
     answer-overlong h = rw e (simp (lt-leb least x h))
 
     module _ (h : least ≤ x) where
-      pub answer-char : (at : ℕ) → at ≡ from + count → isScalar x ≡ true → Char x (offset at) ≡ placed from (ranged count least o)
-      unfolding ranged
-      answer-char at p s = rw (e, p) (simp (le-leb least x h, s))
+      pub answer-char : isScalar x ≡ true → x ≡ scalarOf (ranged count least o)
+      unfolding scalarOf ranged
+      answer-char s = rw e (simp (le-leb least x h, s))
 
-      pub answer-no-scalar : isScalar x ≡ false → Bad ≡ placed from (ranged count least o)
-      unfolding ranged
+      pub answer-no-scalar : isScalar x ≡ false → 0 ≡ scalarOf (ranged count least o)
+      unfolding scalarOf ranged
       answer-no-scalar s = rw e (simp (le-leb least x h, s))

@@ -1,8 +1,14 @@
 pub mod Bytes
 pub mod Joining
+pub mod Fronts
 pub mod Scalars
 pub mod Stepping
+pub mod Sizes
+mod Gathered
 pub mod Encoded
 pub mod Whole
+pub mod Rfc
+pub mod Verdicts
 pub mod Halving
+pub mod Spelled
 mod Examples

@@ -1,17 +1,22 @@
--- What a character that was read is: a scalar value, in as many bytes as it takes; and each scalar value's encoding is read back.
+-- What a character that was read is, and that each scalar value's encoding is read back.
+-- clash              0 is not 1: a case that cannot be
+-- joined-below       n following bytes add 6 n bits
+-- Ranged, ranged-is  what is known where the joined bits were taken
+-- Read, front-read   a character is a scalar value, in as many bytes as it takes
+-- read-back          each scalar value's encoding, with anything after it, is read back
 -- Assumes nothing.
 use mathlib.Core.Path.{_≡_, refl, sym, ap, _∙_, subst}
-use mathlib.Core.Bool.{Bool, true, false, cond, _&&_, _||_, false≢true, or-false}
+use mathlib.Core.Bool.{Bool, true, false, cond, _&&_, _||_}
 use mathlib.Core.Option.{Option, none, some}
 use mathlib.Core.List.{List, [], _∷_, _++_}
-use Prim.Native.Nat.{ℕ, zero, suc, _+_, _-_, _*_, _/_, _%_, _^_, _≤_, _<_, zero-le, suc-le-suc}
+use Prim.Native.Nat.{ℕ, zero, suc, _+_, _-_, _*_, _/_, _%_, _^_, _≤_, _<_}
 use native.Mathlib.Nat.{le-trans, le-of-eq, lt-of-lt-of-le, mul-le-mul-right, mul-assoc, mul-comm, pow-suc, div-div-eq-div-mul}
 use native.Mathlib.Omega.{arith}
 use lib.Dec.{leb, ltb}
 use lib.ListN.{length}
-use borrow.Author.Tests.{le-leb, lt-leb, lt-ltb, le-ltb, leb-true, ltb-true, ltb-false}
+use borrow.Author.Tests.{le-leb, lt-ltb, le-ltb, leb-true, ltb-true, ltb-false}
 use Rattle.chars.proofs.Bytes.{and-l, and-r, follows-range, scalar-low, width-1, width-2, width-3, width-4}
-use Rattle.chars.specs.Utf8.{Front, char, bad, end, follows, isScalar, joined, ranged, front, encode, width}
+use Rattle.chars.specs.Utf8.{char, bad, follows, isScalar, joined, ranged, front, encode, width}
 
 pub clash : {A : Type 0} → _≡_ {A = ℕ} 0 1 → A
 clash e = absurd (omega arith)

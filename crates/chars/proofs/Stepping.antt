@@ -1,26 +1,32 @@
--- One step at an offset: what it is by the first byte, and what it tells of the text's characters and of its first bad byte.
+-- One step at an offset, and what it tells of the text's characters and of its first bad byte.
+-- step-end, step-ascii, step-bad, step-char   the step, from what the code finds at the offset
+-- front-fits                                  a character lies within the text
+-- front-chars, front-bad                      reading goes on after it
+-- Stepped, stepped                            all that a step to a character tells
+-- stepped-bad, stepped-end, stepped-none      what a step to none tells; checked-all the same past the end
+-- sized-on, sized-bad                         what a size tells of the first bad byte
+-- ascii-valid                                 a text of ASCII alone is valid
 -- Assumes nothing.
 use mathlib.Core.Path.{_≡_, refl, sym, ap, _∙_, subst}
-use mathlib.Core.Bool.{Bool, true, false, cond, _&&_, _||_}
+use mathlib.Core.Bool.{Bool, true, false, cond, _&&_}
 use mathlib.Core.Logic.{_⊎_, inl, inr}
 use mathlib.Core.Option.{Option, none, some}
 use mathlib.Core.List.{List, [], _∷_}
-use Prim.Native.Nat.{ℕ, zero, suc, _+_, _-_, _*_, _/_, _%_, _^_, _≤_, _<_, zero-le, suc-le-suc}
+use Prim.Native.Nat.{ℕ, zero, suc, _+_, _-_, _*_, _≤_, _<_, zero-le, suc-le-suc}
 use native.Mathlib.Nat.{add-zero}
-use native.Mathlib.Numerals.{add-one}
 use native.Mathlib.Omega.{arith}
-use lib.Bits.{bitAnd, and-mask}
 use lib.Dec.{leb, ltb}
 use lib.ListN.{length, getD, drop, drop-of-length-le, length-drop}
 use lib.Seq.{drop-drop}
-use borrow.Author.Tests.{le-leb, lt-leb, lt-ltb, le-ltb, leb-true, ltb-true}
+use borrow.Author.Tests.{lt-ltb}
 use Rattle.chars.specs.declared.offset.Offset.{Offset}
-use Rattle.chars.specs.declared.utf8.Step.{Step}
 use Rattle.chars.specs.declared.utf8.Step.the-variants.{Char, Bad, End}
-use Rattle.chars.specs.Utf8.{Front, char, bad, end, follows, isScalar, joined, ranged, front, onFront, chars, charsFrom, badFrom, width}
-use Rattle.chars.specs.Steps.{offset, placed, stepAt}
+use Rattle.chars.specs.Utf8.{Front, char, bad, end, follows, isScalar, joined, ranged, front, onFront, chars, charsFrom, badFrom, firstBad, width, encode}
+use Rattle.chars.specs.Steps.{offset, placed, scalarOf, sizeOf, stepAt}
 use Rattle.chars.proofs.Joining.{drop-at}
 use Rattle.chars.proofs.Scalars.{front-read}
+use Rattle.chars.proofs.Fronts.{front-one}
+use Rattle.chars.proofs.Whole.{written, front-some}
 
 module _ (t : List ℕ) (at : ℕ) where
   pub step-end : length t ≤ at → End ≡ stepAt t (offset at)
@@ -29,38 +35,32 @@ module _ (t : List ℕ) (at : ℕ) where
 
   module _ (h : at < length t) where
     pub step-ascii : getD t at 0 < 0x80 → Char (getD t at 0) (offset (at + 1)) ≡ stepAt t (offset at)
-    unfolding stepAt front
-    step-ascii l = rw (drop-at t at h) (simp (lt-ltb _ _ l, add-zero))
+    unfolding stepAt
+    step-ascii l = rw (front-one t at h l) (simp add-zero)
 
-    module _ (l1 : 0x80 ≤ getD t at 0) where
-      pub step-stray : getD t at 0 < 0xC0 → Bad ≡ stepAt t (offset at)
-      unfolding stepAt front
-      step-stray l = rw (drop-at t at h) (simp (le-ltb _ _ l1, lt-ltb _ _ l))
+    -- above ASCII no scalar value is 0, so that 0 says that none starts
+    module _ (l : 0x80 ≤ getD t at 0) where
+      lead-zero : (n : ℕ) → front (drop at t) ≡ char 0 n → ⊥
+      unfolding encode
+      lead-zero n p = let z : getD t at 0 ≡ 0 = cc (written (drop at t) 0 n p, drop-at t at h) in omega arith
 
-      module _ (l2 : 0xC0 ≤ getD t at 0) where
-        pub step-two : getD t at 0 < 0xE0 → placed (at + 1) (ranged 1 0x80 (joined 1 (bitAnd (getD t at 0) 0x1F) (drop (at + 1) t))) ≡ stepAt t (offset at)
-        unfolding stepAt front
-        step-two l =
-            let m : getD t at 0 % 32 ≡ getD t at 0 - 0xC0 = omega arith in
-            rw (drop-at t at h, and-mask (getD t at 0) 5, m) (simp (le-ltb _ _ l1, le-ltb _ _ l2, lt-ltb _ _ l))
+      pub step-bad : 0 ≡ scalarOf (front (drop at t)) → Bad ≡ stepAt t (offset at)
+      unfolding stepAt scalarOf
+      step-bad = go (front (drop at t)) refl
+        where
+          go : (f : Front) → front (drop at t) ≡ f → 0 ≡ scalarOf f → Bad ≡ placed (at + 1) f
+          go (char s n) p q = absurd (lead-zero n (p ∙ ap (λ (v : ℕ). char v n) (sym q)))
+          go bad p q = refl
+          go end p q = absurd (front-some _ _ (ap front (sym (drop-at t at h)) ∙ p))
 
-        module _ (l3 : 0xE0 ≤ getD t at 0) where
-          pub step-three : getD t at 0 < 0xF0 → placed (at + 1) (ranged 2 0x800 (joined 2 (bitAnd (getD t at 0) 0x0F) (drop (at + 1) t))) ≡ stepAt t (offset at)
-          unfolding stepAt front
-          step-three l =
-              let m : getD t at 0 % 16 ≡ getD t at 0 - 0xE0 = omega arith in
-              rw (drop-at t at h, and-mask (getD t at 0) 4, m) (simp (le-ltb _ _ l1, le-ltb _ _ l2, le-ltb _ _ l3, lt-ltb _ _ l))
-
-          module _ (l4 : 0xF0 ≤ getD t at 0) where
-            pub step-four : getD t at 0 < 0xF8 → placed (at + 1) (ranged 3 0x10000 (joined 3 (bitAnd (getD t at 0) 0x07) (drop (at + 1) t))) ≡ stepAt t (offset at)
-            unfolding stepAt front
-            step-four l =
-                let m : getD t at 0 % 8 ≡ getD t at 0 - 0xF0 = omega arith in
-                rw (drop-at t at h, and-mask (getD t at 0) 3, m) (simp (le-ltb _ _ l1, le-ltb _ _ l2, le-ltb _ _ l3, le-ltb _ _ l4, lt-ltb _ _ l))
-
-            pub step-none : 0xF8 ≤ getD t at 0 → Bad ≡ stepAt t (offset at)
-            unfolding stepAt front
-            step-none l = rw (drop-at t at h) (simp (le-ltb _ _ l1, le-ltb _ _ l2, le-ltb _ _ l3, le-ltb _ _ l4, le-ltb _ _ l))
+      pub step-char : (x : ℕ) → x ≡ scalarOf (front (drop at t)) → (x ≡ 0 → ⊥) → Char x (offset (at + width x)) ≡ stepAt t (offset at)
+      unfolding stepAt scalarOf
+      step-char x = go (front (drop at t)) refl
+        where
+          go : (f : Front) → front (drop at t) ≡ f → x ≡ scalarOf f → (x ≡ 0 → ⊥) → Char x (offset (at + width x)) ≡ placed (at + 1) f
+          go (char s n) p q r = let e : at + width s ≡ at + 1 + n = omega (arith, front-read (drop at t) s n p .wide) in rw (q, e)
+          go bad p q r = absurd (r q)
+          go end p q r = absurd (r q)
 
 -- ---- a character lies within the text
 joined-fits : (n x s : ℕ) (l : List ℕ) → joined n x l ≡ some s → n ≤ length l
@@ -199,3 +199,37 @@ stepped-none t at = unfold stepAt in go (front (drop at t)) refl
     go (char v n) p (inr q) = let z : _≡_ {A = ℕ} 0 1 = cc in absurd (omega arith)
     go bad p q = no-chars (drop at t) bad p refl
     go end p q = no-chars (drop at t) end p refl
+
+-- ---- what a size tells
+pub sized-on : (t : List ℕ) (at w : ℕ) → w ≡ sizeOf (front (drop at t)) → (w ≡ 0 → ⊥)
+    → (at + w ≤ length t) × (badFrom 0 at (drop at t) ≡ badFrom 0 (at + w) (drop (at + w) t))
+unfolding sizeOf
+sized-on t at w = go (front (drop at t)) refl
+  where
+    go : (f : Front) → front (drop at t) ≡ f → w ≡ sizeOf f → (w ≡ 0 → ⊥)
+        → (at + w ≤ length t) × (badFrom 0 at (drop at t) ≡ badFrom 0 (at + w) (drop (at + w) t))
+    go (char s n) p q r =
+        let e : at + 1 + n ≡ at + w = omega arith in
+        let step = stepped t at s (at + 1 + n) (unfold stepAt in ap (placed (at + 1)) p) in
+        rw (← e) (step .inside, step .checks)
+    go bad p q r = absurd (r q)
+    go end p q r = absurd (r q)
+
+pub sized-bad : (t : List ℕ) (at : ℕ) → at < length t → 0 ≡ sizeOf (front (drop at t)) → badFrom 0 at (drop at t) ≡ some at
+unfolding sizeOf
+sized-bad t at h = go (front (drop at t)) refl
+  where
+    go : (f : Front) → front (drop at t) ≡ f → 0 ≡ sizeOf f → badFrom 0 at (drop at t) ≡ some at
+    go (char s n) p q = absurd (omega arith)
+    go bad p q = bad-here at (drop at t) p
+    go end p q = absurd (front-some _ _ (ap front (sym (drop-at t at h)) ∙ p))
+
+-- ---- a text of ASCII alone
+ascii-from : (at : ℕ) (l : List ℕ) → ((k : ℕ) → getD l k 0 < 0x80) → badFrom 0 at l ≡ none
+unfolding badFrom front
+ascii-from at [] f = refl
+ascii-from at (b ∷ l) f = simp (lt-ltb b 0x80 (f 0)) (ascii-from (at + 1) l (λ k. f (suc k)))
+
+pub ascii-valid : (t : List ℕ) → ((k : ℕ) → getD t k 0 < 0x80) → firstBad t ≡ none
+unfolding firstBad
+ascii-valid t f = ascii-from 0 t f

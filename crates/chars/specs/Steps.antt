@@ -1,8 +1,10 @@
 -- How the code answers: a step at an offset, and the verdict on a text, by the definitions of Utf8.antt.
 -- Assumes nothing.
-use Prim.Native.Nat.{ℕ, _+_}
+use Prim.Native.Nat.{ℕ, suc, _+_}
+use mathlib.Core.Bool.{Bool, true, cond}
 use mathlib.Core.List.{List}
 use mathlib.Core.Option.{Option, none, some}
+use lib.Dec.{eqb, leb, ltb}
 use lib.ListN.{drop}
 use Rattle.chars.specs.declared.offset.Offset.{Offset}
 use Rattle.chars.specs.declared.utf8.Step.{Step}
@@ -29,3 +31,24 @@ stepAt text at = placed (at .0 + 1) (front (drop (at .0) text))
 abbrev pub verdictOf : Option ℕ → Verdict
 verdictOf none = Valid
 verdictOf (some at) = BadAt (offset at)
+
+-- ---- what the private functions answer, on the way there
+-- the scalar value at the front; 0 where no character starts
+unfoldable pub scalarOf : Front → ℕ
+scalarOf (char s n) = s
+scalarOf bad = 0
+scalarOf end = 0
+
+-- how many bytes the character at the front takes; 0 where none starts
+unfoldable pub sizeOf : Front → ℕ
+sizeOf (char s n) = suc n
+sizeOf bad = 0
+sizeOf end = 0
+
+-- three bytes that start with a and b are neither overlong nor a surrogate
+unfoldable pub fitsThree : ℕ → ℕ → Bool
+fitsThree a b = cond (eqb a 0xE0) (leb 0xA0 b) (cond (eqb a 0xED) (ltb b 0xA0) true)
+
+-- four bytes that start with a and b are neither overlong nor above U+10FFFF
+unfoldable pub fitsFour : ℕ → ℕ → Bool
+fitsFour a b = cond (eqb a 0xF0) (leb 0x90 b) (cond (eqb a 0xF4) (ltb b 0x90) (ltb a 0xF4))

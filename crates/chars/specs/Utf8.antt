@@ -1,7 +1,7 @@
 -- UTF-8, RFC 3629, on a list of bytes.
 -- Assumes nothing.
 use Prim.Native.Nat.{ℕ, zero, suc, _+_, _-_, _*_, _/_, _%_}
-use mathlib.Core.Bool.{Bool, true, false, cond, _&&_, _||_}
+use mathlib.Core.Bool.{Bool, true, cond, _&&_, _||_}
 use mathlib.Core.List.{List, [], _∷_, _++_}
 use mathlib.Core.Option.{Option, none, some}
 use lib.Dec.{leb, ltb}
@@ -43,6 +43,7 @@ front (a ∷ rest) =
     (cond (ltb a 0xF0) (ranged 2 0x800 (joined 2 (a - 0xE0) rest))
     (cond (ltb a 0xF8) (ranged 3 0x10000 (joined 3 (a - 0xF0) rest)) bad))))
 
+-- by what stands at the front: a character, a bad byte, or nothing
 abbrev pub onFront : {A : Type 0} → Front → (ℕ → ℕ → A) → A → A → A
 onFront (char s n) f x y = f s n
 onFront bad f x y = x
@@ -54,6 +55,7 @@ charsFrom skip [] = []
 charsFrom zero (b ∷ rest) = onFront (front (b ∷ rest)) (λ s n. s ∷ charsFrom n rest) [] []
 charsFrom (suc k) (b ∷ rest) = charsFrom k rest
 
+-- the characters of a text, up to the first bad byte
 unfoldable pub chars : List ℕ → List ℕ
 chars text = charsFrom 0 text
 
@@ -63,10 +65,12 @@ badFrom skip at [] = none
 badFrom zero at (b ∷ rest) = onFront (front (b ∷ rest)) (λ s n. badFrom n (at + 1) rest) (some at) none
 badFrom (suc k) at (b ∷ rest) = badFrom k (at + 1) rest
 
+-- the offset of the first byte of the first bad sequence; none where the text is valid
 unfoldable pub firstBad : List ℕ → Option ℕ
 firstBad text = badFrom 0 0 text
 
--- ---- the other way: how RFC 3629 writes a scalar value, and how many bytes that takes
+-- ---- the other way
+-- how RFC 3629 writes a scalar value
 unfoldable pub encode : ℕ → List ℕ
 encode s =
     cond (ltb s 0x80) (s ∷ [])
@@ -74,13 +78,16 @@ encode s =
     (cond (ltb s 0x10000) ((0xE0 + s / 4096) ∷ ((0x80 + s / 64 % 64) ∷ ((0x80 + s % 64) ∷ [])))
     ((0xF0 + s / 262144) ∷ ((0x80 + s / 4096 % 64) ∷ ((0x80 + s / 64 % 64) ∷ ((0x80 + s % 64) ∷ []))))))
 
+-- how many bytes that takes
 unfoldable pub width : ℕ → ℕ
 width s = cond (ltb s 0x80) 1 (cond (ltb s 0x800) 2 (cond (ltb s 0x10000) 3 4))
 
+-- a list of scalar values, one after the other
 unfoldable pub encodeAll : List ℕ → List ℕ
 encodeAll [] = []
 encodeAll (s ∷ rest) = encode s ++ encodeAll rest
 
+-- every number of a list is a scalar value
 unfoldable pub allScalars : List ℕ → Bool
 allScalars [] = true
 allScalars (s ∷ rest) = isScalar s && allScalars rest

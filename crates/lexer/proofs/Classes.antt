@@ -10,42 +10,27 @@ use Prim.Native.Nat.{ℕ, _≤_, _<_}
 use native.Mathlib.Omega.{arith}
 use lib.Dec.{eqb}
 use borrow.Author.Tests.{eq-eqb, ne-eqb}
-use Rattle.chars.specs.Table.{meetsFrom}
-use Rattle.chars.specs.Pairs.{alphabeticPairs, numericPairs}
-use Rattle.chars.specs.Class.{alphabetic, numeric, asciiAlphabetic, asciiNumeric}
-use Rattle.chars.proofs.Halving.{ascii-one, ascii-two, inside, out}
+use Rattle.chars.specs.Class.{alphabetic, numeric}
+use Rattle.chars.proofs.Spelled.{upper, lower, no-letter, digit, no-digit}
 use Rattle.lexer.specs.declared.ends.Stop.the-variants.{Numerics, Charset, Word, Number}
 use Rattle.lexer.specs.Ways.{pinned}
 use Rattle.lexer.specs.Scans.{inCharset, inWord, inNumber, goesOn}
 
 module _ (c : ℕ) where
-  numeric-ascii : c < 0x80 → asciiNumeric c ≡ numeric c
-  unfolding numeric numericPairs asciiNumeric meetsFrom
-  numeric-ascii h = ascii-one 0x30 0x39 _ c refl h
-
-  alphabetic-ascii : c < 0x80 → asciiAlphabetic c ≡ alphabetic c
-  unfolding alphabetic alphabeticPairs asciiAlphabetic meetsFrom
-  alphabetic-ascii h = ascii-two 0x41 0x5A 0x61 0x7A _ c refl h
-
   pub numeric-in : 0x30 ≤ c → c ≤ 0x39 → numeric c ≡ true
-  unfolding asciiNumeric
-  numeric-in l h = sym (numeric-ascii (omega arith)) ∙ inside 0x30 0x39 c l h
+  numeric-in l h = sym (digit c (omega arith) l h)
 
   pub numeric-out : c < 0x80 → (0x30 ≤ c → c ≤ 0x39 → ⊥) → numeric c ≡ false
-  unfolding asciiNumeric
-  numeric-out k n = sym (numeric-ascii k) ∙ out 0x30 0x39 c n
+  numeric-out k n = sym (no-digit c k n)
 
   pub capital-in : 0x41 ≤ c → c ≤ 0x5A → alphabetic c ≡ true
-  unfolding asciiAlphabetic
-  capital-in l h = sym (alphabetic-ascii (omega arith)) ∙ simp (inside 0x41 0x5A c l h)
+  capital-in l h = sym (upper c (omega arith) l h)
 
   pub small-in : 0x61 ≤ c → c ≤ 0x7A → alphabetic c ≡ true
-  unfolding asciiAlphabetic
-  small-in l h = sym (alphabetic-ascii (omega arith)) ∙ simp (inside 0x61 0x7A c l h, or-true)
+  small-in l h = sym (lower c (omega arith) l h (λ p q. omega arith))
 
   pub alphabetic-out : c < 0x80 → (0x41 ≤ c → c ≤ 0x5A → ⊥) → (0x61 ≤ c → c ≤ 0x7A → ⊥) → alphabetic c ≡ false
-  unfolding asciiAlphabetic
-  alphabetic-out k n m = sym (alphabetic-ascii k) ∙ simp (out 0x41 0x5A c n, out 0x61 0x7A c m)
+  alphabetic-out k n m = sym (no-letter c k n m)
 
   -- ---- what goes on
   pub charset-numeric : numeric c ≡ true → goesOn pinned Charset c ≡ true

@@ -10,7 +10,7 @@ use Rattle.tokens.specs.declared.refusal.Refusal.the-variants.{TextTooLo
 use Rattle.tokens.specs.Answers.{Answer, done, refused, refusal}
 
 -- the refusal of a number and a detail
-pub back : Answer → Refusal
+unfoldable pub back : Answer → Refusal
 back (done ns) = TextTooLong 0
 back (refused k d) =
     cond (eqb k 1) (TextTooLong d)

@@ -1,6 +1,9 @@
+pub mod Arms
 pub mod Forms
 pub mod Places
 pub mod Storing
 pub mod Parts
 pub mod Back
+pub mod Checking
+pub mod Rows
 mod Examples

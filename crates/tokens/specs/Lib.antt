@@ -3,4 +3,6 @@ pub mod Slots
 pub mod Formed
 pub mod Content
 pub mod Answers
+pub mod Checks
 pub mod Texts
+pub mod Fixed

@@ -7,7 +7,7 @@ use borrow.Author.Tests.{not-true, not-false}
 use lib.Bits.{and-le-r}
 use lib.ListN.{getD}
 use denote.Ref.{now}
-use Rattle.chars.proofs.Joining.{Joining, small-start, joining-more, joining-stray, joining-short, joining-done, joining-place, answer-none, answer-overlong, answer-char, answer-no-scalar}
+use Rattle.chars.proofs.Joining.{Joining, small-start, joining-more, joining-stray, joining-short, joining-done, answer-none, answer-overlong, answer-char, answer-no-scalar}
 use Rattle.chars.proofs.utf8.sequence.Statement.{statement}
 use Rattle.chars.proofs.utf8.sequence.Tie as tie
 
@@ -22,7 +22,7 @@ loop-holds c =
     record { few = omega arith; small = small-start _ _ (c .before .pre .0) (c .before .pre .1); place = refl; same = refl }
 
 returns : tie.Need-returns Inv-loop μ-loop
-returns c = answer-none _ _ _ _ (joining-short (c .before .before .loop .inv) (c .before .loop-test .taken) (c .if1 .taken))
+returns c = answer-none _ _ _ (joining-short (c .before .before .loop .inv) (c .before .loop-test .taken) (c .if1 .taken))
 
 shared-slice-read-b : tie.Need-shared-slice-read-b Inv-loop μ-loop
 shared-slice-read-b c = omega arith
@@ -34,7 +34,7 @@ returns-2 : tie.Need-returns-2 Inv-loop μ-loop
 returns-2 c =
     let test = c .before in
     let turn = test .before .before .before in
-    answer-none _ _ _ _
+    answer-none _ _ _
     (joining-stray (turn .before .loop .inv) (turn .loop-test .taken) (test .before .before .if1 .left) (sym (test .is-following .ensures) ∙ not-true _ (c .if2 .taken)))
 
 cast-x : tie.Need-cast-x Inv-loop μ-loop
@@ -61,7 +61,7 @@ returns-3 : tie.Need-returns-3 Inv-loop μ-loop
 returns-3 c =
     let out = c .before in
     let done = joining-done (out .before .loop .inv) (out .loop-test .left) in
-    answer-overlong _ _ _ _ _ done (c .if3 .taken)
+    answer-overlong _ _ _ _ done (c .if3 .taken)
 
 is-scalar-requires : tie.Need-is-scalar-requires Inv-loop μ-loop
 is-scalar-requires c κs = search needs
@@ -69,15 +69,14 @@ is-scalar-requires c κs = search needs
 returns-4 : tie.Need-returns-4 Inv-loop μ-loop
 returns-4 c =
     let out = c .before .before .before in
-    let inv = out .before .loop .inv in
-    let done = joining-done inv (out .loop-test .left) in
-    answer-char _ _ _ _ _ done (c .before .before .if3 .left) _ (joining-place inv (out .loop-test .left)) (sym (c .before .is-scalar .ensures) ∙ c .if4 .taken)
+    let done = joining-done (out .before .loop .inv) (out .loop-test .left) in
+    answer-char _ _ _ _ done (c .before .before .if3 .left) (sym (c .before .is-scalar .ensures) ∙ c .if4 .taken)
 
 returns-5 : tie.Need-returns-5 Inv-loop μ-loop
 returns-5 c =
     let out = c .before .before .before in
     let done = joining-done (out .before .loop .inv) (out .loop-test .left) in
-    answer-no-scalar _ _ _ _ _ done (c .before .before .if3 .left) (sym (c .before .is-scalar .ensures) ∙ c .if4 .left)
+    answer-no-scalar _ _ _ _ done (c .before .before .if3 .left) (sym (c .before .is-scalar .ensures) ∙ c .if4 .left)
 
 pub sequence-spec : {M : Type 1} → statement M
 sequence-spec =

@@ -1,12 +1,15 @@
--- `chars::utf8::validate` meets its contract. The invariant: the first bad byte from `at` on is that of the whole text. Assumes nothing.
+-- `chars::utf8::validate` meets its contract: bits below 0x80 leave ASCII alone, which is valid. The invariant of the loop: the first
+-- bad byte from `at` on is that of the whole text. Assumes nothing.
 use mathlib.Core.Path.{_≡_, refl, sym, ap, _∙_}
 use Prim.Native.Nat.{_≤_, _-_, zero-le}
+use native.Mathlib.Nat.{lt-of-le-of-lt}
 use native.Mathlib.Omega.{arith}
 use borrow.Author.Needs.{needs}
 use lib.ListN.{length, drop}
+use denote.Ref.{now}
 use Rattle.chars.specs.Utf8.{badFrom, firstBad}
 use Rattle.chars.specs.Steps.{verdictOf}
-use Rattle.chars.proofs.Stepping.{Stepped, stepped, stepped-bad, stepped-end, checked-all}
+use Rattle.chars.proofs.Stepping.{sized-on, sized-bad, checked-all, ascii-valid}
 use Rattle.chars.proofs.utf8.validate.Statement.{statement}
 use Rattle.chars.proofs.utf8.validate.Tie as tie
 
@@ -16,43 +19,40 @@ Inv-loop text at₀ at = (at ≤ length text) × (badFrom 0 at (drop at text) �
 abbrev μ-loop : tie.MeasureT-loop
 μ-loop text at₀ at = length text - at
 
+any-bits-requires : tie.Need-any-bits-requires Inv-loop μ-loop
+any-bits-requires c κs = search needs
+
+returns : tie.Need-returns Inv-loop μ-loop
+returns c =
+    let text = now (c .before .before .before .args .text) in
+    ap verdictOf (sym (ascii-valid text (λ k. lt-of-le-of-lt (c .before .any-bits .ensures k) (c .if1 .taken))))
+
 loop-holds : tie.Need-loop-holds Inv-loop μ-loop
 unfolding firstBad
 loop-holds c = (zero-le, refl)
 
-step-at-requires : tie.Need-step-at-requires Inv-loop μ-loop
-step-at-requires c κs = search needs
-
-enum-known-s : tie.Need-enum-known-s Inv-loop μ-loop
-enum-known-s c = search needs
-
-loop-less : tie.Need-loop-less Inv-loop μ-loop
-loop-less c =
-    let arm = c .before in
-    let step = stepped _ _ _ _ (sym (arm .before .before .step-at .ensures) ∙ arm .s .given .1) in
-    omega (arith, step .on, step .inside)
-
-loop-again : tie.Need-loop-again Inv-loop μ-loop
-loop-again c =
-    let arm = c .before in
-    let step = stepped _ _ _ _ (sym (arm .before .before .step-at .ensures) ∙ arm .s .given .1) in
-    (step .inside, sym (step .checks) ∙ arm .before .before .before .before .loop .inv .1)
-
-enum-told : tie.Need-enum-told Inv-loop μ-loop
-enum-told c = search needs
-
-returns : tie.Need-returns Inv-loop μ-loop
-returns c =
-    let call = c .before .before in
-    ap verdictOf (sym (stepped-bad _ _ (sym (call .step-at .ensures) ∙ c .enum-told .given .1)) ∙ call .before .before .loop .inv .1)
-
-enum-told-2 : tie.Need-enum-told-2 Inv-loop μ-loop
-enum-told-2 c = search needs
+width-at-requires : tie.Need-width-at-requires Inv-loop μ-loop
+width-at-requires c κs = c .loop-test .taken
 
 returns-2 : tie.Need-returns-2 Inv-loop μ-loop
 returns-2 c =
-    let call = c .before .before in
-    ap verdictOf (sym (stepped-end _ _ (sym (call .step-at .ensures) ∙ c .enum-told2 .given .1)) ∙ call .before .before .loop .inv .1)
+    let turn = c .before .before in
+    ap verdictOf (sym (sized-bad _ _ (turn .loop-test .taken) (sym (c .if2 .taken) ∙ c .before .width-at .ensures)) ∙ turn .before .loop .inv .1)
+
+add-at : tie.Need-add-at Inv-loop μ-loop
+add-at c =
+    let head = c .before .before .before in
+    omega (arith, sized-on (now (head .before .before .before .before .args .text)) (head .loop .at) _ (c .before .width-at .ensures) (c .if2 .left) .0)
+
+loop-less : tie.Need-loop-less Inv-loop μ-loop
+loop-less c =
+    let head = c .before .before .before in
+    omega (arith, sized-on (now (head .before .before .before .before .args .text)) (head .loop .at) _ (c .before .width-at .ensures) (c .if2 .left) .0)
+
+loop-again : tie.Need-loop-again Inv-loop μ-loop
+loop-again c =
+    let on = sized-on _ _ _ (c .before .width-at .ensures) (c .if2 .left) in
+    (on .0, sym (on .1) ∙ c .before .before .before .loop .inv .1)
 
 returns-3 : tie.Need-returns-3 Inv-loop μ-loop
 returns-3 c = ap verdictOf (sym (checked-all _ _ (c .loop-test .left)) ∙ c .before .loop .inv .1)
@@ -63,13 +63,12 @@ validate-spec =
     (tie.spec
     Inv-loop
     μ-loop
+    any-bits-requires
+    returns
     loop-holds
-    step-at-requires
-    enum-known-s
+    width-at-requires
+    returns-2
+    add-at
     loop-less
     loop-again
-    enum-told
-    returns
-    enum-told-2
-    returns-2
     returns-3)
