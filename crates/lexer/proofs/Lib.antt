@@ -8,4 +8,6 @@ pub mod Spelling
 pub mod Steps
 pub mod Turns
 pub mod Answering
+pub mod Unique
+pub mod Formed
 mod Examples
