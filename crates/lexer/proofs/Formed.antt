@@ -1,5 +1,6 @@
 -- Every token that is read is well formed, for any ways to read.
--- one-fits            what a rule reads carries what its kind may carry
+-- plain-not, -known, unknown-not, carries-known   a kind that carries nothing, and Unknown, carry no offsets
+-- fits, Fits, one-fits   what a rule reads carries what its kind may carry
 -- chars-scalars       the characters of a text are scalar values
 -- all-formed          each token of a reading is well formed, so the first malformed place is the length
 -- Assumes nothing.
@@ -31,13 +32,32 @@ use Rattle.lexer.proofs.Characters.{View, here, past, view}
 use Rattle.lexer.proofs.Reaching.{chars-end}
 
 -- a kind that carries nothing
-unfoldable plain : ℕ → Bool
+unfoldable pub plain : ℕ → Bool
 plain k = ltb k kind.Unknown && not (carriesOffsets k)
 
-abbrev fits : ℕ → Carried → Bool
+abbrev pub fits : ℕ → Carried → Bool
 fits k nothing = plain k
 fits k (slice m n) = carriesOffsets k
 fits k (scalar c) = eqb k kind.Unknown && isScalar c
+
+pub plain-not : (k : ℕ) → plain k ≡ true → not (carriesOffsets k) ≡ true
+unfolding plain
+plain-not k e = and-r (ltb k kind.Unknown) (not (carriesOffsets k)) e
+
+pub plain-known : (k : ℕ) → plain k ≡ true → k ≡ kind.Unknown → ⊥
+unfolding plain
+plain-known k e z = omega (arith, ltb-true k kind.Unknown (and-l (ltb k kind.Unknown) (not (carriesOffsets k)) e))
+
+pub unknown-not : (k c : ℕ) → fits k (scalar c) ≡ true → carriesOffsets k ≡ true → _≡_ {A = ℕ} 0 1
+unfolding carriesOffsets
+unknown-not k c f e =
+    let z : k ≡ kind.Unknown = eqb-true k kind.Unknown (and-l (eqb k kind.Unknown) (isScalar c) f) in
+    let y : false ≡ true = rw z at e in
+    cc
+
+pub carries-known : (k : ℕ) → carriesOffsets k ≡ true → k ≡ kind.Unknown → _≡_ {A = ℕ} 0 1
+unfolding carriesOffsets
+carries-known k e z = let y : false ≡ true = rw z at e in cc
 
 formed : (at : ℕ) (cs : List ℕ) (k : ℕ) (x : Carried) → fits k x ≡ true → wellFormed (slotOf at cs k x) ≡ true
 unfolding wellFormed plain
@@ -52,7 +72,7 @@ formed at cs k (scalar c) e =
     rw (z, s) (unfold carriesOffsets in refl)
 
 -- ---- what a rule reads
-abbrev Fits : Out → Type 0
+abbrev pub Fits : Out → Type 0
 Fits halt = Unit {0}
 Fits (took k x n) = fits k x ≡ true
 
@@ -154,7 +174,7 @@ rule-fits Word e w star c cs s = known-fits _ _ _ (known-plain Words _) (unfold 
 rule-fits Number e w star c cs s = known-fits _ _ _ (known-plain Zeros _) (unfold carriesOffsets in refl)
 rule-fits Unknown e w star c cs s = s
 
-one-fits : (w : Ways) (star : Bool) (st : State) (c : ℕ) (cs : List ℕ) → isScalar c ≡ true → Fits (readOne w star st c cs)
+pub one-fits : (w : Ways) (star : Bool) (st : State) (c : ℕ) (cs : List ℕ) → isScalar c ≡ true → Fits (readOne w star st c cs)
 unfolding readOne
 one-fits w star st c cs s = rule-fits (ruleOf w st c cs) (kind-fits w st c cs) w star c cs s
 

@@ -10,4 +10,6 @@ pub mod Turns
 pub mod Answering
 pub mod Unique
 pub mod Formed
+pub mod Pieces
+pub mod Local
 mod Examples
