@@ -2,6 +2,8 @@
 // Where the ported Rust's source is at hand it is built with `--cfg rust_source`.
 // One module a subject: it counts what it ran and each difference, and a difference ends the program with status 1.
 mod chars;
+#[cfg(rust_source)]
+mod lexer;
 #[allow(dead_code)]
 mod ours;
 mod random;
@@ -15,36 +17,47 @@ mod writer;
 
 use std::process::ExitCode;
 
+// How much is run.
+#[cfg_attr(not(rust_source), allow(dead_code))]
+struct Size {
+    full: bool,
+    texts: u64,      // random texts, for the characters
+    statements: u64, // random statements, for the reader
+    lists: u64,      // random token lists, for the sanitiser and for the writer
+    longest: usize,  // the longest token list of one kind of each class
+}
+
 fn main() -> ExitCode {
-    let size = std::env::args().nth(1).unwrap_or_default();
-    let (texts, lists, longest) = match size.as_str() {
-        "quick" => (300_000, 100_000, 3),
-        "full" => (12_000_000, 3_000_000, 4),
+    let word = std::env::args().nth(1).unwrap_or_default();
+    let size = match word.as_str() {
+        "quick" => Size { full: false, texts: 300_000, statements: 100_000, lists: 100_000, longest: 3 },
+        "full" => Size { full: true, texts: 12_000_000, statements: 1_000_000, lists: 2_000_000, longest: 4 },
         _ => {
-            eprintln!("usage: compare quick|full");
+            eprintln!("usage: compare quick|full [SEED]");
             return ExitCode::from(2);
         }
     };
     let seed = std::env::args().nth(2).map_or(0x5EED_0001, |word| word.parse().expect("the seed is a number"));
 
-    let mut differences = chars::run(texts, seed);
-    differences += against_the_rust(lists, longest, seed);
+    let mut differences = chars::run(size.texts, seed);
+    differences += against_the_rust(&size, seed);
     println!("{differences} differences");
     if differences == 0 { ExitCode::SUCCESS } else { ExitCode::FAILURE }
 }
 
-// The stages against the ported Rust's, `lists` random lists or statements each; `longest` is the longest list of every kind.
+// The stages against the ported Rust's.
 #[cfg(rust_source)]
-fn against_the_rust(lists: u64, longest: usize, seed: u64) -> u64 {
-    let sanitized = sanitizer::run(&sanitizer::Size { list: longest, random: lists as usize }, seed);
+fn against_the_rust(size: &Size, seed: u64) -> u64 {
+    let read = lexer::run(size.full, size.statements, seed);
+    let sanitized = sanitizer::run(&sanitizer::Size { list: size.longest, random: size.lists as usize }, seed);
     if let Err(difference) = &sanitized {
         println!("sanitizer: DIFFERENT: {difference}");
     }
-    writer::run(lists, seed) + sanitized.is_err() as u64
+    read + sanitized.is_err() as u64 + writer::run(size.lists, seed)
 }
 
 #[cfg(not(rust_source))]
-fn against_the_rust(_: u64, _: usize, _: u64) -> u64 {
+fn against_the_rust(_: &Size, _: u64) -> u64 {
     println!("the ported Rust's source is not at hand: nothing was compared with it");
     0
 }

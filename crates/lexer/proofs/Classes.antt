@@ -27,7 +27,7 @@ module _ (c : ℕ) where
   capital-in l h = sym (upper c (omega arith) l h)
 
   pub small-in : 0x61 ≤ c → c ≤ 0x7A → alphabetic c ≡ true
-  small-in l h = sym (lower c (omega arith) l h (λ m n. omega arith))
+  small-in l h = sym (lower c (omega arith) l h (λ p q. omega arith))
 
   pub alphabetic-out : c < 0x80 → (0x41 ≤ c → c ≤ 0x5A → ⊥) → (0x61 ≤ c → c ≤ 0x7A → ⊥) → alphabetic c ≡ false
   alphabetic-out k n m = sym (no-letter c k n m)

@@ -8,4 +8,8 @@ pub mod Spelling
 pub mod Steps
 pub mod Turns
 pub mod Answering
+pub mod Unique
+pub mod Formed
+pub mod Pieces
+pub mod Local
 mod Examples
