@@ -2,75 +2,34 @@
 use mathlib.Core.Path.{ap}
 use native.Mathlib.Omega.{arith}
 use Rattle.tokens.specs.Texts.{texts, textOf}
+use borrow.Author.Needs.{needs}
 use Rattle.writer.proofs.marks.one_byte.Statement.{statement}
 use Rattle.writer.proofs.marks.one_byte.Tie as tie
 
+mark-requires : tie.Need-mark-requires
+mark-requires c κs = search needs
+
 returns : tie.Need-returns
-unfolding textOf texts
-returns c h = ap textOf (c .match .keys1)
+returns c = c .mark .ensures
 
 returns-2 : tie.Need-returns-2
 unfolding textOf texts
-returns-2 c h = ap textOf (c .match .keys2)
+returns-2 c h = ap textOf (c .match .keys1)
 
 returns-3 : tie.Need-returns-3
 unfolding textOf texts
-returns-3 c h = ap textOf (c .match .keys3)
+returns-3 c h = ap textOf (c .match .keys2)
 
 returns-4 : tie.Need-returns-4
 unfolding textOf texts
-returns-4 c h = ap textOf (c .match .keys4)
+returns-4 c h = ap textOf (c .match .keys3)
 
 returns-5 : tie.Need-returns-5
 unfolding textOf texts
-returns-5 c h = ap textOf (c .match .keys5)
+returns-5 c h = ap textOf (c .match .keys4)
 
 returns-6 : tie.Need-returns-6
-unfolding textOf texts
-returns-6 c h = ap textOf (c .match .keys6)
-
-returns-7 : tie.Need-returns-7
-unfolding textOf texts
-returns-7 c h = ap textOf (c .match .keys7)
-
-returns-8 : tie.Need-returns-8
-unfolding textOf texts
-returns-8 c h = ap textOf (c .match .keys8)
-
-returns-9 : tie.Need-returns-9
-unfolding textOf texts
-returns-9 c h = ap textOf (c .match .keys9)
-
-returns-10 : tie.Need-returns-10
-unfolding textOf texts
-returns-10 c h = ap textOf (c .match .keys10)
-
-returns-11 : tie.Need-returns-11
-unfolding textOf texts
-returns-11 c h = ap textOf (c .match .keys11)
-
-returns-12 : tie.Need-returns-12
-unfolding textOf texts
-returns-12 c h = ap textOf (c .match .keys12)
-
-returns-13 : tie.Need-returns-13
-unfolding textOf texts
-returns-13 c h = ap textOf (c .match .keys13)
-
-returns-14 : tie.Need-returns-14
-unfolding textOf texts
-returns-14 c h = ap textOf (c .match .keys14)
-
-returns-15 : tie.Need-returns-15
-unfolding textOf texts
-returns-15 c h = ap textOf (c .match .keys15)
-
-returns-16 : tie.Need-returns-16
-unfolding textOf texts
-returns-16 c h = ap textOf (c .match .keys16)
-
-returns-17 : tie.Need-returns-17
-returns-17 c h = absurd (omega arith)
+returns-6 c h = absurd (omega arith)
 
 pub one-byte-spec : {M : Type 1} → statement M
-one-byte-spec = tie.close (tie.spec returns returns-2 returns-3 returns-4 returns-5 returns-6 returns-7 returns-8 returns-9 returns-10 returns-11 returns-12 returns-13 returns-14 returns-15 returns-16 returns-17)
+one-byte-spec = tie.close (tie.spec mark-requires returns returns-2 returns-3 returns-4 returns-5 returns-6)
