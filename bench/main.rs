@@ -1,7 +1,13 @@
-// Times of the proved code beside Rust's own, on the same input, in one process; `tools/bench` builds and runs it. No test.
+// Times of the proved code beside Rust's own and the ported Rust, on the same input, in one process; `tools/bench` builds and runs it. No test.
 #[allow(dead_code)]
 #[path = "../compare/src/ours.rs"]
 mod ours;
+#[cfg(rust_source)]
+#[allow(dead_code)]
+#[path = "../compare/src/tokens.rs"]
+mod tokens;
+#[cfg(rust_source)]
+mod writing;
 
 use std::hint::black_box;
 use std::time::Instant;
@@ -9,17 +15,25 @@ use std::time::Instant;
 const BYTES: usize = 100_000;
 const ROUNDS: usize = 201;
 
-// The best and the median of many rounds, in ns for each of `count`.
-fn time<T>(count: usize, run: impl Fn() -> T) -> (f64, f64) {
+// The best and the median of many rounds, in ns for each of `count`. What a round needs is made before its clock starts, and its answer is
+// dropped after it stops.
+fn time_after<S, T>(count: usize, make: impl Fn() -> S, run: impl Fn(S) -> T) -> (f64, f64) {
     let mut times: Vec<f64> = (0..ROUNDS)
         .map(|_| {
+            let made = make();
             let start = Instant::now();
-            black_box(run());
-            start.elapsed().as_nanos() as f64 / count as f64
+            let answer = black_box(run(made));
+            let time = start.elapsed().as_nanos() as f64 / count as f64;
+            drop(answer);
+            time
         })
         .collect();
     times.sort_by(f64::total_cmp);
     (times[0], times[ROUNDS / 2])
+}
+
+fn time<T>(count: usize, run: impl Fn() -> T) -> (f64, f64) {
+    time_after(count, || (), |()| run())
 }
 
 fn line(what: &str, ours: (f64, f64), rust: (f64, f64)) {
@@ -77,4 +91,8 @@ fn main() {
         let rust = time(count, || chars.iter().filter(|c| c.is_numeric()).count());
         line(&format!("numeric, {name}"), ours, rust);
     }
+    #[cfg(rust_source)]
+    writing::run();
+    #[cfg(not(rust_source))]
+    println!("\nwriting: skipped, the ported Rust is not there (tools/bench says where it is looked for)");
 }

@@ -1,9 +1,9 @@
 -- Refusals read back from the paper's numbers: no two refusals have one number and detail.
+-- back-refusal  reading a refusal's number and detail gives it back
 -- refusal-one   equal on paper, equal in code
 -- Assumes nothing.
 use mathlib.Core.Path.{_≡_, refl, sym, ap, _∙_}
-use mathlib.Core.Bool.{Bool, true, false, cond}
-use Prim.Native.Nat.{ℕ}
+use mathlib.Core.Bool.{cond}
 use lib.Dec.{eqb}
 use Rattle.tokens.specs.declared.refusal.Refusal.{Refusal}
 use Rattle.tokens.specs.declared.refusal.Refusal.the-variants.{TextTooLong, NotUtf8, NoRoomTokens, BadCount, BadToken, CutChar, NoRoomOut}

@@ -7,15 +7,15 @@
 -- list-passes                        checkCount and checkForm find nothing
 -- refusal-then, refusal-after        after a refusal nothing is checked and nothing written
 -- Assumes nothing.
-use mathlib.Core.Path.{_≡_, refl, sym, ap, _∙_}
+use mathlib.Core.Path.{_≡_, refl, sym, ap}
 use mathlib.Core.Bool.{Bool, true, false, cond, _||_, or-true}
-use mathlib.Core.List.{List, []}
+use mathlib.Core.List.{List}
 use mathlib.Core.Option.{Option, none, some}
 use Prim.Native.Nat.{ℕ, _≤_, _<_}
 use native.Mathlib.Omega.{arith}
 use lib.Dec.{ltb}
 use lib.ListN.{length}
-use borrow.Author.Tests.{lt-ltb, le-ltb, ltb-true, ltb-false}
+use borrow.Author.Tests.{lt-ltb, le-ltb, ltb-false}
 use Rattle.chars.specs.Utf8.{firstBad}
 use Rattle.chars.proofs.Scalars.{clash}
 use Rattle.tokens.specs.declared.slot.Slot.{Slot}

@@ -1,7 +1,6 @@
 -- Worked examples, by computation. Assumes nothing.
 use mathlib.Core.Path.{_≡_, refl}
-use mathlib.Core.List.{List, [], _∷_}
-use Prim.Native.Nat.{ℕ}
+use mathlib.Core.List.{[], _∷_}
 use Rattle.tokens.specs.Kinds as kind
 use Rattle.tokens.specs.Texts.{ascii, texts, textOf}
 

@@ -11,13 +11,13 @@ use mathlib.Core.Path.{_≡_, refl, sym, ap, _∙_}
 use mathlib.Core.Bool.{Bool, true, false, cond}
 use mathlib.Core.List.{List, [], _∷_, _++_}
 use Prim.Native.Nat.{ℕ, zero, suc, _+_, _-_, _≤_, _<_}
-use native.Mathlib.Nat.{zero-add, add-zero, suc-add, add-suc}
+use native.Mathlib.Nat.{zero-add, add-zero, suc-add}
 use native.Mathlib.Omega.{arith}
 use lib.ListN.{length, getD}
 use Rattle.tokens.specs.declared.slot.Slot.{Slot}
-use Rattle.tokens.specs.Slots.{slotAt, tokensFrom, tokensIn, bare}
+use Rattle.tokens.specs.Slots.{slotAt, tokensFrom, tokensIn}
 use Rattle.tokens.specs.Formed.{firstPlace}
-use Rattle.tokens.proofs.Storing.{length-tokens, tokens-more, tokens-at, getD-tokens}
+use Rattle.tokens.proofs.Storing.{length-tokens, tokens-more, tokens-at}
 
 module _ (p : Slot → Bool) where
   pub place-le : (ts : List Slot) → firstPlace p ts ≤ length ts

@@ -2,6 +2,7 @@
 -- length-tokens                     n slots are n tokens
 -- tokens-split, -more, -at          the first slots and those after them
 -- getD-tokens                       a token of the list is the one in its slot
+-- slot-ext                          slots with the same three numbers are the same
 -- slot-stored, slot-other           what a store leaves in its slot and in another
 -- length-stored, room-stored        a store keeps the length
 -- tokens-stored                     the tokens after a store
@@ -13,7 +14,7 @@
 -- laid-none, laid-more              no token; one more token stored behind those laid
 -- Assumes nothing.
 use mathlib.Core.Path.{_≡_, refl, sym, ap, _∙_, subst}
-use mathlib.Core.List.{List, [], _∷_, _++_, append-assoc}
+use mathlib.Core.List.{List, [], _∷_, _++_}
 use Prim.Native.Nat.{ℕ, zero, suc, _+_, _-_, _*_, _/_, _≤_, _<_}
 use native.Mathlib.Nat.{zero-add, add-zero, suc-add, add-suc}
 use native.Mathlib.Decide.{ℕ-discrete}

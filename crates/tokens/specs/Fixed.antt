@@ -1,5 +1,5 @@
 -- A fixed text as the code holds it: nine bytes, blanks after the text, and its length. Assumes nothing.
-use mathlib.Core.List.{List, _++_}
+use mathlib.Core.List.{_++_}
 use Prim.Native.Nat.{ℕ}
 use lib.ListN.{length, take, replicate}
 use Rattle.tokens.specs.declared.texts.Fixed.{Fixed}

@@ -1,6 +1,6 @@
 -- The fixed text of each kind that has one (document 01, "writer.rs"): all of its text, or the mark before its slice.
 -- Assumes nothing.
-use mathlib.Core.Bool.{Bool, cond}
+use mathlib.Core.Bool.{cond}
 use mathlib.Core.List.{List, [], _∷_}
 use Prim.Native.Nat.{ℕ}
 use Prim.Native.String.{String}

@@ -3,18 +3,19 @@
 -- text-quoted, -charset, -other, -slice, -unknown, -fixed   tokenText by the kind
 -- quote-one, charset-one   a quote and the mark of a charset are one byte
 -- len-quoted, -charset, -unknown   the length of a token's text by its kind
+-- below-or          one number is below another, or not
 -- content-small, token-small   how long a slice and a token's text can be
 -- formed-scalar     a well-formed Unknown holds at most U+10FFFF
 -- Assumes nothing.
 use mathlib.Core.Path.{_≡_, refl, ap, sym, _∙_}
 use mathlib.Core.Logic.{_⊎_, inl, inr, ⊎-elim}
-use mathlib.Core.Bool.{Bool, true, false, cond, _&&_, and-false, false≢true}
-use mathlib.Core.List.{List, [], _∷_, _++_}
+use mathlib.Core.Bool.{Bool, true, false, cond, and-false, false≢true}
+use mathlib.Core.List.{List, [], _++_}
 use Prim.Native.Nat.{ℕ, _+_, _-_, _≤_, _<_}
 use native.Mathlib.Omega.{arith}
 use lib.Dec.{eqb, leb, ltb}
 use lib.ListN.{length, length-append, length-take, length-drop}
-use borrow.Author.Tests.{lt-ltb, le-ltb, le-leb, lt-leb, eq-eqb, ne-eqb, ltb-true, ltb-false, eqb-true}
+use borrow.Author.Tests.{le-leb, lt-leb, eq-eqb, ne-eqb, ltb-true, ltb-false}
 use Rattle.chars.specs.Utf8.{isScalar, encode, width}
 use Rattle.chars.proofs.Bytes.{and-l, scalar-beyond}
 use Rattle.chars.proofs.Rfc.{width-encode}

@@ -1,4 +1,5 @@
 // Copies into the lent output: what the Rust's growing `out` does by `push` and `push_str`.
+use crate::marks::one_byte;
 ghost use Prim.Native.Nat.{_+_, _≤_, _<_};
 ghost use lib.ListN.{length};
 ghost use Rattle.chars.specs.Utf8.{encode};
@@ -23,6 +24,10 @@ pub fn put_fixed(out: &mut [u8], at: usize, kind: u32) -> usize
     requires { ⌜ at + length (textOf kind) ≤ length (now out) ⌝ }
     ensures { λ r. ⌜ Put (now (out .entry)) at (textOf kind) r (now (out .exit)) ⌝ }
 {
+    let byte = one_byte(kind);
+    if 0 < byte {
+        return put(out, at, &[byte]);
+    }
     let fixed = tokens::texts::fixed_text(kind);
     let bytes = fixed.bytes;
     let len = fixed.len;

@@ -20,6 +20,7 @@ ghost use Rattle.writer.specs.Promise.{Writes};
 
 pub mod copy;
 pub mod cut;
+pub mod marks;
 pub mod token;
 
 // The length of the text, or why it was not written.

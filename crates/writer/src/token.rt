@@ -2,6 +2,7 @@
 use crate::copy::put;
 use crate::copy::put_char;
 use crate::copy::put_fixed;
+use crate::marks::one_byte;
 use chars::offset::Offset;
 use chars::utf8::width_of;
 use tokens::content::buffer_content;
@@ -32,6 +33,16 @@ fn slice_of(text: &[u8], slot: Slot) -> &[u8]
     buffer_content(text, Offset(wide(slot.first)), Offset(wide(slot.second)))
 }
 
+// How many bytes the fixed text of a kind has.
+fn fixed_len(kind: u32) -> usize
+    ensures { λ r. ⌜ r ≡ length (textOf kind) ⌝ }
+{
+    if 0 < one_byte(kind) {
+        return 1;
+    }
+    fixed_text(kind).len
+}
+
 // How many bytes a token's text has.
 pub fn token_len(text: &[u8], slot: Slot) -> usize
     requires { ⌜ length (now text) ≤ limit ⌝ }
@@ -44,7 +55,7 @@ pub fn token_len(text: &[u8], slot: Slot) -> usize
         kind::OTHER => slice_of(text, slot).len(),
         kind::NUMERIC..=kind::NUMBERED_PLACEHOLDER => slice_of(text, slot).len(),
         kind::UNKNOWN => width_of(slot.first),
-        _ => fixed_text(kind).len,
+        _ => fixed_len(kind),
     }
 }
 

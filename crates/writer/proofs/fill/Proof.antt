@@ -6,7 +6,7 @@ use borrow.Author.Needs.{needs}
 use borrow.Author.Tests.{not-false}
 use lib.ListN.{length}
 use Rattle.tokens.specs.declared.slot.Slot.{Slot}
-use Rattle.tokens.specs.Slots.{bare, slotAt, tokensFrom, tokensIn}
+use Rattle.tokens.specs.Slots.{bare, tokensFrom, tokensIn}
 use Rattle.tokens.specs.Formed.{malformed, wellFormed}
 use Rattle.tokens.proofs.Places.{place-le, place-none}
 use Rattle.tokens.proofs.Storing.{length-tokens, getD-tokens}

@@ -1,6 +1,6 @@
 -- `writer::measure` meets its contract. The invariant: the total so far is the length of the text so far. It cannot overflow: 2^20 tokens of
 -- little more than 2^20 bytes. Assumes nothing.
-use mathlib.Core.Path.{_≡_, refl, sym, ap, _∙_}
+use mathlib.Core.Path.{_≡_, refl, ap, _∙_}
 use Prim.Native.Nat.{_*_, _-_, _≤_}
 use native.Mathlib.Omega.{arith}
 use lib.ListN.{length, length-append}

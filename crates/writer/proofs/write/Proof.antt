@@ -4,14 +4,14 @@ use mathlib.Core.List.{[], _∷_}
 use Prim.Native.Nat.{ℕ, _≤_}
 use native.Mathlib.Omega.{arith}
 use lib.ListN.{length}
-use Rattle.tokens.specs.Answers.{Answer, limit, done, refusal, cutChar, noRoomOut}
+use Rattle.tokens.specs.Answers.{Answer, limit, done, cutChar, noRoomOut}
 use Rattle.tokens.specs.Checks.{_then_, fine, checkText, checkCount, checkForm, checked}
 use Rattle.tokens.specs.Slots.{room, tokensIn}
 use Rattle.tokens.specs.Formed.{firstPlace, malformed}
 use Rattle.tokens.proofs.Checking.{text-passes, list-passes}
 use Rattle.tokens.proofs.Storing.{length-tokens}
 use Rattle.writer.specs.Written.{written}
-use Rattle.writer.specs.Promise.{checkCuts, checkOut, writeAnswer}
+use Rattle.writer.specs.Promise.{checkOut, writeAnswer}
 use Rattle.writer.proofs.Answers.{cuts-found, cuts-none, out-short, out-fits, refused-text, refused-list, after-list, refuses, writes}
 use borrow.Author.Needs.{needs}
 use Rattle.writer.proofs.write.Statement.{statement}

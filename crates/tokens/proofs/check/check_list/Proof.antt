@@ -1,5 +1,5 @@
 -- `tokens::check::check_list` meets its contract: the three tests in their order. Assumes nothing.
-use mathlib.Core.Path.{_≡_, sym, ap, _∙_}
+use mathlib.Core.Path.{sym, ap, _∙_}
 use native.Mathlib.Omega.{arith}
 use lib.ListN.{length}
 use Rattle.tokens.specs.Slots.{tokensIn}

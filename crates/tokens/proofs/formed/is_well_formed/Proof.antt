@@ -1,5 +1,5 @@
 -- `tokens::formed::is_well_formed` meets its contract: each arm is a range of the kinds. Assumes nothing.
-use mathlib.Core.Path.{refl, sym, _∙_}
+use mathlib.Core.Path.{sym}
 use native.Mathlib.Omega.{arith}
 use borrow.Author.Needs.{needs}
 use borrow.Author.Tests.{eq-eqb, ne-eqb}

@@ -1,4 +1,4 @@
--- `tokens::texts::indicator_or_mark` meets its contract: at each kind the padded text computes. The last arm is the one kind that is left.
+-- Printed by tools/text-proofs. `tokens::texts::indicator_or_mark` meets its contract: at each kind the padded text computes. The last arm is the one kind that is left.
 -- Assumes nothing.
 use mathlib.Core.Path.{sym, ap}
 use mathlib.Core.List.{[], _∷_}

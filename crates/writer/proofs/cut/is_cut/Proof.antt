@@ -1,5 +1,5 @@
 -- `writer::cut::is_cut` meets its contract: its answers are the cases of `cuts`. Assumes nothing.
-use mathlib.Core.Path.{_≡_, sym, ap, _∙_}
+use mathlib.Core.Path.{sym, ap, _∙_}
 use native.Mathlib.Omega.{arith}
 use borrow.Author.Tests.{not-true, not-false}
 use Rattle.writer.specs.Written.{inside}

@@ -2,10 +2,8 @@
 use mathlib.Core.Path.{_≡_, sym, ap, _∙_}
 use mathlib.Core.List.{_++_}
 use mathlib.Core.Logic.{_⊎_, inl, inr, ⊎-elim}
-use Prim.Native.Nat.{ℕ, _<_, _≤_}
 use native.Mathlib.Omega.{arith}
 use lib.ListN.{length, length-append}
-use Rattle.tokens.specs.Kinds as kind
 use Rattle.tokens.specs.Texts.{textOf}
 use Rattle.writer.specs.Written.{sliceOf, tokenText}
 use Rattle.writer.proofs.Puts.{put-as, put-then}

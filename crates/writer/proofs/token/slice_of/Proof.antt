@@ -1,5 +1,4 @@
 -- `writer::token::slice_of` meets its contract. Assumes nothing.
-use mathlib.Core.Path.{_∙_}
 use borrow.Author.Needs.{needs}
 use Rattle.writer.proofs.token.slice_of.Statement.{statement}
 use Rattle.writer.proofs.token.slice_of.Tie as tie

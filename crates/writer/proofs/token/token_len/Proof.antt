@@ -1,12 +1,10 @@
 -- `writer::token::token_len` meets its contract: one law for each group of kinds. Assumes nothing.
-use mathlib.Core.Path.{_≡_, sym, ap, _∙_}
+use mathlib.Core.Path.{sym, ap, _∙_}
 use mathlib.Core.List.{List}
 use mathlib.Core.Logic.{inl, inr, ⊎-elim}
 use Prim.Native.Nat.{ℕ, _+_}
 use native.Mathlib.Omega.{arith}
 use lib.ListN.{length}
-use Rattle.tokens.specs.declared.texts.Fixed.{Fixed}
-use Rattle.tokens.specs.Fixed.{fixedOf}
 use Rattle.writer.proofs.ByKind.{text-other, text-slice, text-fixed, len-quoted, len-charset, len-unknown}
 use borrow.Author.Needs.{needs}
 use Rattle.writer.proofs.token.token_len.Statement.{statement}
@@ -33,8 +31,8 @@ add-result-2 c = search needs
 slice-of-requires-4 : tie.Need-slice-of-requires-4
 slice-of-requires-4 c κs = search needs
 
-fixed-text-requires : tie.Need-fixed-text-requires
-fixed-text-requires c κs = search needs
+fixed-len-requires : tie.Need-fixed-len-requires
+fixed-len-requires c κs = search needs
 
 returns : tie.Need-returns
 returns c = ap (λ (l : List ℕ). length l + 1) (c .slice-of .ensures) ∙ len-charset _ (c .before .before .before .args .slot) (c .before .match .keys1)
@@ -52,11 +50,10 @@ returns-5 : tie.Need-returns-5
 returns-5 c = ap length (c .slice-of4 .ensures ∙ sym (text-slice _ (c .before .before .before .before .before .before .args .slot) (omega arith) (omega arith)))
 
 returns-6 : tie.Need-returns-6
-unfolding fixedOf
 returns-6 c =
     let rest = c .before .before .match .rest in
     let slot = c .before .before .before .before .args .slot in
-    ap (λ (f : Fixed). f .len) (c .fixed-text .ensures)
+    c .fixed-len .ensures
     ∙ ap length (sym (text-fixed (c .before .before .before .before .args .text .now) slot (rest .0 .0 .1) (rest .0 .1) (rest .1)
     (⊎-elim (λ w. inl (omega (arith, w))) (λ w. inr (omega (arith, w))) (c .before .if1 .came))))
 
@@ -71,7 +68,7 @@ token-len-spec =
     slice-of-requires-3
     add-result-2
     slice-of-requires-4
-    fixed-text-requires
+    fixed-len-requires
     returns
     returns-2
     returns-3
