@@ -1,4 +1,4 @@
--- `tokens::check::check_text` meets its contract. Assumes nothing.
+-- `tokens::check::check_text` meets its contract: too long, or what the verdict says of the first bad byte. Assumes nothing.
 use mathlib.Core.Path.{sym, _∙_}
 use Rattle.chars.specs.Utf8.{firstBad}
 use Rattle.tokens.proofs.Checking.{text-long, text-within, verdict-valid, verdict-bad}
