@@ -1,4 +1,4 @@
--- `tokens::check::check_text` meets its contract. Assumes nothing.
+-- `tokens::check::check_text` meets its contract: the length first, then the verdict, by what it says of the first bad byte. Assumes nothing.
 use mathlib.Core.Path.{sym, ap, _∙_}
 use Rattle.chars.specs.Utf8.{firstBad}
 use Rattle.chars.proofs.Verdicts.{verdict-valid, verdict-bad}

@@ -1,4 +1,4 @@
--- `writer::token::slice_of` meets its contract. Assumes nothing.
+-- `writer::token::slice_of` meets its contract: the content between its two offsets. Assumes nothing.
 use borrow.Author.Needs.{needs}
 use Rattle.writer.proofs.token.slice_of.Statement.{statement}
 use Rattle.writer.proofs.token.slice_of.Tie as tie
