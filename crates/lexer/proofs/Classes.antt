@@ -12,7 +12,7 @@ use lib.Dec.{eqb}
 use borrow.Author.Tests.{eq-eqb, ne-eqb}
 use Rattle.chars.specs.Class.{alphabetic, numeric}
 use Rattle.chars.proofs.Spelled.{upper, lower, no-letter, digit, no-digit}
-use Rattle.lexer.specs.declared.ends.Stop.the-variants.{Numerics, Charset, Word, Number}
+use Rattle.lexer.specs.declared.goes.Stop.the-variants.{Numerics, Charset, Word, Number}
 use Rattle.lexer.specs.Ways.{pinned}
 use Rattle.lexer.specs.Scans.{inCharset, inWord, inNumber, goesOn}
 

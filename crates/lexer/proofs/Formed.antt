@@ -18,8 +18,8 @@ use Rattle.tokens.specs.Kinds as kind
 use Rattle.tokens.specs.Texts.{Row, textOf, texts}
 use Rattle.tokens.specs.Formed.{carriesOffsets, wellFormed, malformed, firstPlace}
 use Rattle.tokens.specs.declared.slot.Slot.{Slot}
-use Rattle.lexer.specs.declared.known.Sort.{Sort}
-use Rattle.lexer.specs.declared.known.Sort.the-variants.{Words, Runs, Zeros}
+use Rattle.lexer.specs.declared.guess.Sort.{Sort}
+use Rattle.lexer.specs.declared.guess.Sort.the-variants.{Words, Runs, Zeros}
 use Rattle.lexer.specs.declared.rule.State.{State}
 use Rattle.lexer.specs.declared.rule.State.the-variants.{Default, PastSelect, PastFrom}
 use Rattle.lexer.specs.declared.rule.Rule.{Rule}

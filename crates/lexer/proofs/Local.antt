@@ -19,8 +19,8 @@ use lib.Dec.{eqb}
 use lib.ListN.{length, take, drop, length-drop}
 use lib.Seq.{take-append-le, take-append-seam, drop-append-le, drop-append-seam}
 use Rattle.tokens.specs.Kinds as kind
-use Rattle.lexer.specs.declared.ends.Stop.the-variants as stop
-use Rattle.lexer.specs.declared.known.Sort.the-variants as sort
+use Rattle.lexer.specs.declared.goes.Stop.the-variants as stop
+use Rattle.lexer.specs.declared.guess.Sort.the-variants as sort
 use Rattle.lexer.specs.declared.rule.State.{State}
 use Rattle.lexer.specs.declared.rule.Rule.{Rule}
 use Rattle.lexer.specs.declared.rule.Rule.the-variants.{Quoted, Line, Block, Single, Numbered, Run, Charset, Word, Number, Unknown}

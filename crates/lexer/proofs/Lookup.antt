@@ -18,9 +18,9 @@ use borrow.Author.Tests.{eq-eqb, ne-eqb, eqb-true, leb-true}
 use Rattle.chars.proofs.Bytes.{and-l, and-r}
 use Rattle.tokens.specs.Kinds as kind
 use Rattle.tokens.specs.Texts.{Row, textOf, texts}
-use Rattle.lexer.specs.declared.known.Sort.{Sort}
-use Rattle.lexer.specs.declared.known.Sort.the-variants.{Words, Runs, Zeros}
-use Rattle.lexer.specs.declared.known.Guess.{Guess}
+use Rattle.lexer.specs.declared.guess.Sort.{Sort}
+use Rattle.lexer.specs.declared.guess.Sort.the-variants.{Words, Runs, Zeros}
+use Rattle.lexer.specs.declared.guess.Guess.{Guess}
 use Rattle.lexer.specs.Known.{lower, equal, find, words, runs, zeros, rowsOf, knownKind, letters, packed, guessIn, firstRow, guessOf}
 use Rattle.lexer.proofs.Characters.{clash}
 
@@ -99,15 +99,15 @@ absent (r ∷ rs) w v e p = go (equal w (r .text)) refl (absent rs w v (and-r (n
 
 -- what the code answers, of a text w and a guess
 abbrev pub confirmed : List ℕ → Guess → ℕ
-confirmed w g = cond (eqb (g .length) (length w)) (cond (equal w (take (length w) (drop (g .row * 9) letters))) (g .kind) kind.None) kind.None
+confirmed w g = cond (eqb (g .1) (length w)) (cond (equal w (take (length w) (drop (g .0 * 9) letters))) (g .2) kind.None) kind.None
 
-pub confirmed-at : (w : List ℕ) (g : Guess) (n : ℕ) → length w ≡ n → g .length ≡ n
-    → confirmed w g ≡ cond (equal w (take n (drop (g .row * 9) letters))) (g .kind) kind.None
-confirmed-at w g n p q = rw (eq-eqb (g .length) (length w) (q ∙ sym p), p)
+pub confirmed-at : (w : List ℕ) (g : Guess) (n : ℕ) → length w ≡ n → g .1 ≡ n
+    → confirmed w g ≡ cond (equal w (take n (drop (g .0 * 9) letters))) (g .2) kind.None
+confirmed-at w g n p q = rw (eq-eqb (g .1) (length w) (q ∙ sym p), p)
 
 -- the guess of a row
 abbrev guessed : ℕ → Row → Guess
-guessed i r = record { row = i; length = length (r .text); kind = r .kind }
+guessed i r = record { 0 = i; 1 = length (r .text); 2 = r .kind }
 
 cond-same : {A : Type 0} (b : Bool) (x : A) → cond b x x ≡ x
 cond-same true x = refl
@@ -163,16 +163,16 @@ module _ (w : List ℕ) where
   lookup-long Runs h = unfold rowsOf in too-long runs w (unfold runs in refl) h
   lookup-long Zeros h = unfold rowsOf in too-long zeros w (unfold zeros in refl) h
 
-guess-in : (rs : List Row) (i v : ℕ) → i + length rs ≤ 56 → guessIn i rs v .row < 56
+guess-in : (rs : List Row) (i v : ℕ) → i + length rs ≤ 56 → guessIn i rs v .0 < 56
 guess-in [] i v h = omega arith
 guess-in (r ∷ rs) i v h = go (eqb v (packed 0 (r .text))) (guess-in rs (i + 1) v (omega arith))
   where
-    go : (b : Bool) → guessIn (i + 1) rs v .row < 56
-        → cond b (record { row = i; length = length (r .text); kind = r .kind }) (guessIn (i + 1) rs v) .row < 56
+    go : (b : Bool) → guessIn (i + 1) rs v .0 < 56
+        → cond b (record { 0 = i; 1 = length (r .text); 2 = r .kind }) (guessIn (i + 1) rs v) .0 < 56
     go true e = omega arith
     go false e = e
 
-pub guess-row : (sort : Sort) (v : ℕ) → guessOf sort v .row < 56
+pub guess-row : (sort : Sort) (v : ℕ) → guessOf sort v .0 < 56
 unfolding guessOf rowsOf
 guess-row Words v = guess-in words 0 v (unfold words in omega arith)
 guess-row Runs v = guess-in runs 37 v (unfold runs in omega arith)

@@ -24,8 +24,8 @@ use Rattle.tokens.specs.Slots.{bare, kinds}
 use Rattle.tokens.specs.Content.{content}
 use Rattle.tokens.specs.declared.slot.Slot.{Slot}
 use Rattle.tokens.proofs.Parts.{content-within}
-use Rattle.lexer.specs.declared.ends.Stop.the-variants as stop
-use Rattle.lexer.specs.declared.known.Sort.the-variants as sort
+use Rattle.lexer.specs.declared.goes.Stop.the-variants as stop
+use Rattle.lexer.specs.declared.guess.Sort.the-variants as sort
 use Rattle.lexer.specs.declared.rule.State.{State}
 use Rattle.lexer.specs.declared.rule.State.the-variants.{Default}
 use Rattle.lexer.specs.declared.rule.Rule.{Rule}

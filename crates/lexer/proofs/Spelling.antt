@@ -15,8 +15,8 @@ use Rattle.chars.specs.Utf8.{chars, width, encode, encodeAll}
 use Rattle.chars.proofs.Bytes.{and-l, and-r}
 use Rattle.chars.proofs.Halving.{out}
 use Rattle.tokens.specs.Texts.{Row, textOf, texts}
-use Rattle.lexer.specs.declared.known.Sort.{Sort}
-use Rattle.lexer.specs.declared.known.Sort.the-variants.{Words, Runs, Zeros}
+use Rattle.lexer.specs.declared.guess.Sort.{Sort}
+use Rattle.lexer.specs.declared.guess.Sort.the-variants.{Words, Runs, Zeros}
 use Rattle.lexer.specs.Scans.{bytes}
 use Rattle.lexer.specs.Known.{lower, equal, find, words, runs, zeros, rowsOf, knownKind}
 use Rattle.lexer.specs.Read.{Whole}

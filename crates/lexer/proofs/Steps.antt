@@ -23,10 +23,10 @@ use Rattle.chars.proofs.Stepping.{Stepped}
 use Rattle.tokens.specs.Kinds as kind
 use Rattle.tokens.specs.Slots.{bare}
 use Rattle.tokens.specs.Answers.{limit}
-use Rattle.lexer.specs.declared.ends.Stop.{Stop}
-use Rattle.lexer.specs.declared.ends.Stop.the-variants as stop
-use Rattle.lexer.specs.declared.known.Sort.{Sort}
-use Rattle.lexer.specs.declared.known.Sort.the-variants.{Words, Runs, Zeros}
+use Rattle.lexer.specs.declared.goes.Stop.{Stop}
+use Rattle.lexer.specs.declared.goes.Stop.the-variants as stop
+use Rattle.lexer.specs.declared.guess.Sort.{Sort}
+use Rattle.lexer.specs.declared.guess.Sort.the-variants.{Words, Runs, Zeros}
 use Rattle.lexer.specs.declared.read.Step.{Step}
 use Rattle.lexer.specs.declared.read.Step.the-variants.{Token, Stopped}
 use Rattle.lexer.specs.Ways.{Ways, pinned}

@@ -8,9 +8,9 @@ use lib.Dec.{eqb, leb}
 use lib.ListN.{length}
 use Rattle.tokens.specs.Kinds as kind
 use Rattle.tokens.specs.Texts.{Row, row, textOf}
-use Rattle.lexer.specs.declared.known.Sort.{Sort}
-use Rattle.lexer.specs.declared.known.Sort.the-variants.{Words, Runs, Zeros}
-use Rattle.lexer.specs.declared.known.Guess.{Guess}
+use Rattle.lexer.specs.declared.guess.Sort.{Sort}
+use Rattle.lexer.specs.declared.guess.Sort.the-variants.{Words, Runs, Zeros}
+use Rattle.lexer.specs.declared.guess.Guess.{Guess}
 
 -- an ASCII capital in lower case
 abbrev pub lower : ℕ → ℕ
@@ -99,11 +99,11 @@ abbrev pub packed : ℕ → List ℕ → ℕ
 packed v [] = v
 packed v (b ∷ bs) = packed (v * 256 % 2 ^ 64 + b) bs
 
--- the row, counted from i on, whose text packs to v
+-- the row, counted from i on, whose text packs to v, with its length and its kind
 abbrev pub guessIn : ℕ → List Row → ℕ → Guess
-guessIn i [] v = record { row = 0; length = 0; kind = kind.None }
+guessIn i [] v = record { 0 = 0; 1 = 0; 2 = kind.None }
 guessIn i (r ∷ rs) v =
-    cond (eqb v (packed 0 (r .text))) (record { row = i; length = length (r .text); kind = r .kind }) (guessIn (i + 1) rs v)
+    cond (eqb v (packed 0 (r .text))) (record { 0 = i; 1 = length (r .text); 2 = r .kind }) (guessIn (i + 1) rs v)
 
 -- the tables stand in the order of their names
 abbrev pub firstRow : Sort → ℕ

@@ -16,7 +16,7 @@ use Rattle.lexer.specs.declared.rule.State.the-variants.{Default}
 use Rattle.lexer.specs.declared.read.Step.{Step}
 use Rattle.lexer.specs.declared.read.Step.the-variants.{Token, Stopped}
 use Rattle.lexer.specs.declared.lex.Walked.{Walked}
-use Rattle.lexer.specs.declared.ends.Stop.the-variants.{Number}
+use Rattle.lexer.specs.declared.goes.Stop.the-variants.{Number}
 use Rattle.lexer.specs.Ways.{Ways, pinned}
 use Rattle.lexer.specs.Scans.{bytes, span, reach, goesOn}
 use Rattle.lexer.specs.Rules.{Carried, nothing, slice, scalar, Out, halt, took, readOne, stateAfter}

@@ -11,9 +11,9 @@ use Rattle.lexer.specs.declared.rule.State.the-variants.{Default, PastSe
 use Rattle.lexer.specs.declared.rule.Rule.{Rule}
 use Rattle.lexer.specs.declared.rule.Rule.the-variants.{Quoted, Line, Block, Single, Numbered, Run, Charset, Word, Number, Unknown}
 use Rattle.lexer.specs.Ways.{Ways}
-use Rattle.lexer.specs.declared.ends.Stop.the-variants as stop
+use Rattle.lexer.specs.declared.goes.Stop.the-variants as stop
 use Rattle.lexer.specs.Scans.{span, quoteLen, inLine, blockLen, inRun, goesOn}
-use Rattle.lexer.specs.declared.known.Sort.the-variants.{Words, Runs, Zeros}
+use Rattle.lexer.specs.declared.guess.Sort.the-variants.{Words, Runs, Zeros}
 use Rattle.lexer.specs.Known.{knownKind}
 
 -- what a token carries: nothing; a slice, from after so many of its characters up to after so many; or a character

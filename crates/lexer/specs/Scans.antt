@@ -6,8 +6,8 @@ use mathlib.Core.List.{List, [], _∷_}
 use lib.Dec.{eqb}
 use lib.ListN.{drop}
 use Rattle.chars.specs.Utf8.{chars, width}
-use Rattle.lexer.specs.declared.ends.Stop.{Stop}
-use Rattle.lexer.specs.declared.ends.Stop.the-variants.{Numerics, Charset, Word, Number}
+use Rattle.lexer.specs.declared.goes.Stop.{Stop}
+use Rattle.lexer.specs.declared.goes.Stop.the-variants.{Numerics, Charset, Word, Number}
 use Rattle.lexer.specs.Ways.{Ways}
 
 -- how many characters a scan goes over: it stops before the first at which `stops` says so of what was seen before it

@@ -1,145 +1,21 @@
 // Where a scan ends: one function for each stop rule that the Rust hands to `scan_until`.
-use chars::class::is_alphabetic;
-use chars::class::is_numeric;
+use crate::goes::Stop;
+use crate::goes::ascii_charset;
+use crate::goes::ascii_number;
+use crate::goes::ascii_numerics;
+use crate::goes::ascii_word;
+use crate::goes::goes_on;
+use crate::goes::in_line;
+use crate::goes::in_run;
 use chars::offset::Offset;
 use chars::utf8::Step;
 use chars::utf8::step_at;
 ghost use mathlib.Core.Path.{_≡_};
-ghost use mathlib.Core.Bool.{false};
-ghost use Prim.Native.Nat.{_≤_, _<_};
-ghost use lib.ListN.{length};
+ghost use Prim.Native.Nat.{_<_};
 ghost use Rattle.chars.specs.Steps.{offset};
 ghost use Rattle.lexer.specs.Ways.{pinned};
 ghost use Rattle.lexer.specs.Scans.{span, reach, quoteLen, blockLen, inLine, inRun, goesOn};
 ghost use Rattle.lexer.specs.Read.{Whole};
-
-// The stop rules that ask for a class of characters.
-pub enum Stop {
-    Numerics,
-    Charset,
-    Word,
-    Number,
-}
-
-// Rule 2: a comment ends before \n or \r.
-fn in_line(b: u8) -> bool
-    ensures { λ r. ⌜ r ≡ inLine b ⌝ }
-{
-    match b {
-        b'\n' => false,
-        b'\r' => false,
-        _ => true,
-    }
-}
-
-// Rule 7: what a run takes.
-fn in_run(b: u8) -> bool
-    ensures { λ r. ⌜ r ≡ inRun b ⌝ }
-{
-    match b {
-        b'=' => true,
-        b'!' => true,
-        b'>' => true,
-        b'<' => true,
-        _ => false,
-    }
-}
-
-// The rules that ask for a class, below 0x80.
-fn ascii_numerics(b: u8) -> bool
-    requires { ⌜ b < 0x80 ⌝ }
-    ensures { λ r. ⌜ r ≡ goesOn pinned Stop.Numerics b ⌝ }
-{
-    match b {
-        b'0'..=b'9' => true,
-        _ => false,
-    }
-}
-
-fn ascii_charset(b: u8) -> bool
-    requires { ⌜ b < 0x80 ⌝ }
-    ensures { λ r. ⌜ r ≡ goesOn pinned Stop.Charset b ⌝ }
-{
-    match b {
-        b'0'..=b'9' => true,
-        b'A'..=b'Z' => true,
-        b'a'..=b'z' => true,
-        _ => false,
-    }
-}
-
-fn ascii_word(b: u8) -> bool
-    requires { ⌜ b < 0x80 ⌝ }
-    ensures { λ r. ⌜ r ≡ goesOn pinned Stop.Word b ⌝ }
-{
-    match b {
-        b'0'..=b'9' => true,
-        b'A'..=b'Z' => true,
-        b'a'..=b'z' => true,
-        b'_' => true,
-        b'-' => true,
-        _ => false,
-    }
-}
-
-fn ascii_number(b: u8) -> bool
-    requires { ⌜ b < 0x80 ⌝ }
-    ensures { λ r. ⌜ r ≡ goesOn pinned Stop.Number b ⌝ }
-{
-    match b {
-        b'0'..=b'9' => true,
-        b'.' => true,
-        b'x' => true,
-        b'X' => true,
-        b'b' => true,
-        b'B' => true,
-        _ => false,
-    }
-}
-
-// The same for any character.
-fn alphanumeric(c: u32) -> bool
-    ensures { λ r. ⌜ r ≡ goesOn pinned Stop.Charset c ⌝ }
-{
-    if is_alphabetic(c) {
-        return true;
-    }
-    is_numeric(c)
-}
-
-fn in_word(c: u32) -> bool
-    ensures { λ r. ⌜ r ≡ goesOn pinned Stop.Word c ⌝ }
-{
-    match c {
-        0x5F => true,
-        0x2D => true,
-        _ => alphanumeric(c),
-    }
-}
-
-fn in_number(c: u32) -> bool
-    ensures { λ r. ⌜ r ≡ goesOn pinned Stop.Number c ⌝ }
-{
-    match c {
-        0x2E => true,
-        0x78 => true,
-        0x58 => true,
-        0x62 => true,
-        0x42 => true,
-        _ => is_numeric(c),
-    }
-}
-
-fn goes_on(stop: Stop, c: u32) -> bool
-    ensures { λ r. ⌜ r ≡ goesOn pinned stop c ⌝ }
-{
-    match stop {
-        Stop::Numerics => is_numeric(c),
-        Stop::Charset => alphanumeric(c),
-        Stop::Word => in_word(c),
-        Stop::Number => in_number(c),
-    }
-}
 
 // By characters, from the first that is not ASCII on.
 fn wide_end(text: &[u8], from: Offset, stop: Stop) -> Offset
@@ -239,22 +115,23 @@ pub fn number_end(text: &[u8], from: Offset) -> Offset
 }
 
 // The rest goes by bytes: no byte of a longer character is below 0x80.
-// Rule 1: the quote that closes.
+// Rule 1: the quote that closes. A backslash is passed with the character after it, so that the run before a quote is even.
 pub fn quote_end(text: &[u8], from: Offset, quote: u8) -> Offset
     requires { ⌜ Whole (now text) (from .0) ⌝ }
     requires { ⌜ quote < 0x80 ⌝ }
     ensures { λ r. ⌜ r ≡ offset (reach (quoteLen quote) (now (text .entry)) (from .0)) ⌝ }
 {
     let mut at = from.0;
-    let mut odd = false;
     while at < text.len() {
         let b = text[at];
-        if odd {
-            odd = false;
-        } else if b == quote {
+        if b == quote {
             return Offset(at);
-        } else {
-            odd = b == b'\\';
+        }
+        if b == b'\\' {
+            at += 1;
+            if text.len() <= at {
+                return Offset(at);
+            }
         }
         at += 1;
     }

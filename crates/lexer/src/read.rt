@@ -7,7 +7,7 @@ use crate::ends::numerics_end;
 use crate::ends::quote_end;
 use crate::ends::run_end;
 use crate::ends::word_end;
-use crate::known::Sort;
+use crate::guess::Sort;
 use crate::known::known_kind;
 use crate::rule::Rule;
 use crate::rule::State;

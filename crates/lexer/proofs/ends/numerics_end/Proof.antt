@@ -7,7 +7,7 @@ use borrow.Author.Tests.{not-true, not-false}
 use lib.ListN.{length}
 use denote.Ref.{now}
 use Rattle.chars.specs.Steps.{offset}
-use Rattle.lexer.specs.declared.ends.Stop.the-variants.{Numerics}
+use Rattle.lexer.specs.declared.goes.Stop.the-variants.{Numerics}
 use Rattle.lexer.specs.Ways.{pinned}
 use Rattle.lexer.specs.Scans.{span, reach, goesOn}
 use Rattle.lexer.proofs.Characters.{stepped-ascii}

@@ -9,8 +9,8 @@ use borrow.Author.Tests.{eq-eqb, ne-eqb}
 use lib.ListN.{length, take, drop}
 use denote.Ref.{now}
 use Rattle.tokens.specs.Kinds as kind
-use Rattle.lexer.specs.declared.known.Sort.{Sort}
-use Rattle.lexer.specs.declared.known.Guess.{Guess}
+use Rattle.lexer.specs.declared.guess.Sort.{Sort}
+use Rattle.lexer.specs.declared.guess.Guess.{Guess}
 use Rattle.lexer.specs.Known.{lower, equal, find, rowsOf, knownKind, packed, guessOf}
 use Rattle.lexer.proofs.Lookup.{part-length, guess-row, confirmed, confirmed-at, lookup-is, lookup-long}
 use Rattle.lexer.proofs.known.known_kind.Statement.{statement}
@@ -50,7 +50,7 @@ returns-2 : tie.Need-returns-2
 returns-2 c =
     let g = c .before .before in
     let s = g .before .before .before .before .before .before in
-    sym (found g ∙ rw (ne-eqb (g .guess-row .result .length) (length (text-of s)) (λ e. c .if2 .taken (e ∙ text-length s))))
+    sym (found g ∙ rw (ne-eqb (g .guess-row .result .1) (length (text-of s)) (λ e. c .if2 .taken (e ∙ text-length s))))
 
 same-letters-requires : tie.Need-same-letters-requires
 same-letters-requires c κs =
@@ -61,12 +61,12 @@ same-letters-requires c κs =
 -- what the letters said
 said : (g : tie.After-same-letters) → let s = g .before .before .before .before .before .before .before .before .before in
     knownKind (s .args .sort) (take (s .args .end .0 - s .args .at .0) (drop (s .args .at .0) (now (s .args .text))))
-    ≡ cond (g .same-letters .result) (g .before .before .before .guess-row .result .kind) kind.None
+    ≡ cond (g .same-letters .result) (g .before .before .before .guess-row .result .2) kind.None
 said g =
     let r = g .before .before .before in
     let s = r .before .before .before .before .before .before in
     found r ∙ confirmed-at (text-of s) (r .guess-row .result) (s .args .end .0 - s .args .at .0) (text-length s) (g .before .if2 .left)
-    ∙ ap (λ (b : Bool). cond b (r .guess-row .result .kind) kind.None) (sym (g .same-letters .ensures))
+    ∙ ap (λ (b : Bool). cond b (r .guess-row .result .2) kind.None) (sym (g .same-letters .ensures))
 
 returns-3 : tie.Need-returns-3
 returns-3 c = sym (said (c .before) ∙ rw (c .if3 .taken))

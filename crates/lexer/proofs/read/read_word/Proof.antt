@@ -3,7 +3,7 @@ use mathlib.Core.Path.{_≡_, refl, sym, ap, _∙_}
 use borrow.Author.Needs.{needs}
 use native.Mathlib.Omega.{arith}
 use denote.Ref.{now}
-use Rattle.lexer.specs.declared.ends.Stop.the-variants.{Word}
+use Rattle.lexer.specs.declared.goes.Stop.the-variants.{Word}
 use Rattle.lexer.specs.Ways.{pinned}
 use Rattle.lexer.specs.Scans.{span, goesOn}
 use Rattle.lexer.proofs.Steps.{here-small, far-in, far-after, far-small, word-known, word-other}

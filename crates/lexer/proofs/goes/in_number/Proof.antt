@@ -1,10 +1,10 @@
--- `lexer::ends::in_number` meets its contract. Assumes nothing.
+-- `lexer::goes::in_number` meets its contract. Assumes nothing.
 use mathlib.Core.Path.{_≡_, sym, ap, _∙_}
 use borrow.Author.Needs.{needs}
 use Rattle.lexer.specs.Scans.{goesOn, inNumber}
 use Rattle.lexer.proofs.Classes.{number-out}
-use Rattle.lexer.proofs.ends.in_number.Statement.{statement}
-use Rattle.lexer.proofs.ends.in_number.Tie as tie
+use Rattle.lexer.proofs.goes.in_number.Statement.{statement}
+use Rattle.lexer.proofs.goes.in_number.Tie as tie
 
 is-numeric-requires : tie.Need-is-numeric-requires
 is-numeric-requires c κs = search needs

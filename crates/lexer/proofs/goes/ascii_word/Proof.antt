@@ -1,10 +1,10 @@
--- `lexer::ends::ascii_word` meets its contract, by the ranges of the letters and the digits. Assumes nothing.
+-- `lexer::goes::ascii_word` meets its contract, by the ranges of the letters and the digits. Assumes nothing.
 use mathlib.Core.Path.{_≡_, sym, ap, _∙_}
 use native.Mathlib.Omega.{arith}
 use Rattle.lexer.specs.Scans.{goesOn, inWord}
 use Rattle.lexer.proofs.Classes.{numeric-in, numeric-out, capital-in, small-in, alphabetic-out, charset-numeric, charset-letter, charset-out, word-alnum, word-out}
-use Rattle.lexer.proofs.ends.ascii_word.Statement.{statement}
-use Rattle.lexer.proofs.ends.ascii_word.Tie as tie
+use Rattle.lexer.proofs.goes.ascii_word.Statement.{statement}
+use Rattle.lexer.proofs.goes.ascii_word.Tie as tie
 
 returns : tie.Need-returns
 unfolding goesOn inWord

@@ -1,9 +1,9 @@
--- `lexer::known::run_guess` meets its contract: the numbers of its arms are the packed texts, by computation. Assumes nothing.
+-- `lexer::guess::run_guess` meets its contract: the numbers of its arms are the packed texts, by computation. Assumes nothing.
 use mathlib.Core.Path.{_≡_, refl}
 use borrow.Author.Tests.{ne-eqb}
 use Rattle.lexer.specs.Known.{guessOf, rowsOf, runs}
-use Rattle.lexer.proofs.known.run_guess.Statement.{statement}
-use Rattle.lexer.proofs.known.run_guess.Tie as tie
+use Rattle.lexer.proofs.guess.run_guess.Statement.{statement}
+use Rattle.lexer.proofs.guess.run_guess.Tie as tie
 
 returns : tie.Need-returns
 unfolding guessOf rowsOf runs

@@ -1,10 +1,10 @@
--- `lexer::ends::ascii_numerics` meets its contract: the table's numerics below 0x80 are the ten digits. Assumes nothing.
+-- `lexer::goes::ascii_numerics` meets its contract: the table's numerics below 0x80 are the ten digits. Assumes nothing.
 use mathlib.Core.Path.{_≡_, sym, ap, _∙_}
 use native.Mathlib.Omega.{arith}
 use Rattle.lexer.specs.Scans.{goesOn}
 use Rattle.lexer.proofs.Classes.{numeric-in, numeric-out}
-use Rattle.lexer.proofs.ends.ascii_numerics.Statement.{statement}
-use Rattle.lexer.proofs.ends.ascii_numerics.Tie as tie
+use Rattle.lexer.proofs.goes.ascii_numerics.Statement.{statement}
+use Rattle.lexer.proofs.goes.ascii_numerics.Tie as tie
 
 returns : tie.Need-returns
 unfolding goesOn

@@ -1,10 +1,10 @@
--- `lexer::ends::in_word` meets its contract. Assumes nothing.
+-- `lexer::goes::in_word` meets its contract. Assumes nothing.
 use mathlib.Core.Path.{_≡_, sym, ap, _∙_}
 use borrow.Author.Needs.{needs}
 use Rattle.lexer.specs.Scans.{goesOn, inWord}
 use Rattle.lexer.proofs.Classes.{word-out}
-use Rattle.lexer.proofs.ends.in_word.Statement.{statement}
-use Rattle.lexer.proofs.ends.in_word.Tie as tie
+use Rattle.lexer.proofs.goes.in_word.Statement.{statement}
+use Rattle.lexer.proofs.goes.in_word.Tie as tie
 
 alphanumeric-requires : tie.Need-alphanumeric-requires
 alphanumeric-requires c κs = search needs

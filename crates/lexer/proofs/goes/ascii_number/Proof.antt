@@ -1,10 +1,10 @@
--- `lexer::ends::ascii_number` meets its contract, by the range of the digits. Assumes nothing.
+-- `lexer::goes::ascii_number` meets its contract, by the range of the digits. Assumes nothing.
 use mathlib.Core.Path.{_≡_, sym, ap, _∙_}
 use native.Mathlib.Omega.{arith}
 use Rattle.lexer.specs.Scans.{goesOn, inNumber}
 use Rattle.lexer.proofs.Classes.{numeric-in, numeric-out, number-numeric, number-out}
-use Rattle.lexer.proofs.ends.ascii_number.Statement.{statement}
-use Rattle.lexer.proofs.ends.ascii_number.Tie as tie
+use Rattle.lexer.proofs.goes.ascii_number.Statement.{statement}
+use Rattle.lexer.proofs.goes.ascii_number.Tie as tie
 
 returns : tie.Need-returns
 unfolding goesOn inNumber

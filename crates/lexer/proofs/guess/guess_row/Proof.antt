@@ -1,8 +1,8 @@
--- `lexer::known::guess_row` meets its contract. Assumes nothing.
+-- `lexer::guess::guess_row` meets its contract. Assumes nothing.
 use mathlib.Core.Path.{_≡_, refl, sym, ap, _∙_}
 use borrow.Author.Needs.{needs}
-use Rattle.lexer.proofs.known.guess_row.Statement.{statement}
-use Rattle.lexer.proofs.known.guess_row.Tie as tie
+use Rattle.lexer.proofs.guess.guess_row.Statement.{statement}
+use Rattle.lexer.proofs.guess.guess_row.Tie as tie
 
 enum-told : tie.Need-enum-told
 enum-told c = search needs

@@ -1,9 +1,9 @@
--- `lexer::ends::in_line` meets its contract. Assumes nothing.
+-- `lexer::goes::in_line` meets its contract. Assumes nothing.
 use mathlib.Core.Path.{_≡_, sym, ap, _∙_}
 use borrow.Author.Tests.{ne-eqb}
 use Rattle.lexer.specs.Scans.{inLine}
-use Rattle.lexer.proofs.ends.in_line.Statement.{statement}
-use Rattle.lexer.proofs.ends.in_line.Tie as tie
+use Rattle.lexer.proofs.goes.in_line.Statement.{statement}
+use Rattle.lexer.proofs.goes.in_line.Tie as tie
 
 returns : tie.Need-returns
 unfolding inLine

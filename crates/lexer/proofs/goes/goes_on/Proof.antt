@@ -1,9 +1,9 @@
--- `lexer::ends::goes_on` meets its contract. Assumes nothing.
+-- `lexer::goes::goes_on` meets its contract. Assumes nothing.
 use mathlib.Core.Path.{_≡_, sym, ap, _∙_}
 use borrow.Author.Needs.{needs}
 use Rattle.lexer.specs.Scans.{goesOn}
-use Rattle.lexer.proofs.ends.goes_on.Statement.{statement}
-use Rattle.lexer.proofs.ends.goes_on.Tie as tie
+use Rattle.lexer.proofs.goes.goes_on.Statement.{statement}
+use Rattle.lexer.proofs.goes.goes_on.Tie as tie
 
 enum-told : tie.Need-enum-told
 enum-told c = search needs

@@ -1,9 +1,9 @@
--- `lexer::known::zero_guess` meets its contract: the numbers of its arms are the packed texts, by computation. Assumes nothing.
+-- `lexer::guess::zero_guess` meets its contract: the numbers of its arms are the packed texts, by computation. Assumes nothing.
 use mathlib.Core.Path.{_≡_, refl}
 use borrow.Author.Tests.{ne-eqb}
 use Rattle.lexer.specs.Known.{guessOf, rowsOf, zeros}
-use Rattle.lexer.proofs.known.zero_guess.Statement.{statement}
-use Rattle.lexer.proofs.known.zero_guess.Tie as tie
+use Rattle.lexer.proofs.guess.zero_guess.Statement.{statement}
+use Rattle.lexer.proofs.guess.zero_guess.Tie as tie
 
 returns : tie.Need-returns
 unfolding guessOf rowsOf zeros

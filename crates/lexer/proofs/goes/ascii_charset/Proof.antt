@@ -1,9 +1,9 @@
--- `lexer::ends::ascii_charset` meets its contract, by the ranges of the letters and the digits. Assumes nothing.
+-- `lexer::goes::ascii_charset` meets its contract, by the ranges of the letters and the digits. Assumes nothing.
 use mathlib.Core.Path.{_≡_, sym, ap, _∙_}
 use native.Mathlib.Omega.{arith}
 use Rattle.lexer.proofs.Classes.{numeric-in, numeric-out, capital-in, small-in, alphabetic-out, charset-numeric, charset-letter, charset-out}
-use Rattle.lexer.proofs.ends.ascii_charset.Statement.{statement}
-use Rattle.lexer.proofs.ends.ascii_charset.Tie as tie
+use Rattle.lexer.proofs.goes.ascii_charset.Statement.{statement}
+use Rattle.lexer.proofs.goes.ascii_charset.Tie as tie
 
 returns : tie.Need-returns
 returns c = sym (charset-numeric _ (numeric-in _ (omega arith) (omega arith)))

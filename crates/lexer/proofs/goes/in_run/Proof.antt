@@ -1,9 +1,9 @@
--- `lexer::ends::in_run` meets its contract. Assumes nothing.
+-- `lexer::goes::in_run` meets its contract. Assumes nothing.
 use mathlib.Core.Path.{_≡_, sym, ap, _∙_}
 use borrow.Author.Tests.{ne-eqb}
 use Rattle.lexer.specs.Scans.{inRun}
-use Rattle.lexer.proofs.ends.in_run.Statement.{statement}
-use Rattle.lexer.proofs.ends.in_run.Tie as tie
+use Rattle.lexer.proofs.goes.in_run.Statement.{statement}
+use Rattle.lexer.proofs.goes.in_run.Tie as tie
 
 returns : tie.Need-returns
 unfolding inRun

@@ -1,9 +1,9 @@
--- `lexer::ends::alphanumeric` meets its contract. Assumes nothing.
+-- `lexer::goes::alphanumeric` meets its contract. Assumes nothing.
 use mathlib.Core.Path.{_≡_, sym, ap, _∙_}
 use borrow.Author.Needs.{needs}
 use Rattle.lexer.proofs.Classes.{charset-letter, charset-out}
-use Rattle.lexer.proofs.ends.alphanumeric.Statement.{statement}
-use Rattle.lexer.proofs.ends.alphanumeric.Tie as tie
+use Rattle.lexer.proofs.goes.alphanumeric.Statement.{statement}
+use Rattle.lexer.proofs.goes.alphanumeric.Tie as tie
 
 is-alphabetic-requires : tie.Need-is-alphabetic-requires
 is-alphabetic-requires c κs = search needs

@@ -1,10 +1,10 @@
--- `lexer::known::word_guess` meets its contract: the numbers of its arms are the packed texts, by computation. Assumes nothing.
+-- `lexer::guess::word_guess` meets its contract: the numbers of its arms are the packed texts, by computation. Assumes nothing.
 use mathlib.Core.Path.{_≡_, refl}
 use borrow.Author.Tests.{ne-eqb}
 use Rattle.tokens.specs.Texts.{textOf, texts}
 use Rattle.lexer.specs.Known.{guessOf, rowsOf, words}
-use Rattle.lexer.proofs.known.word_guess.Statement.{statement}
-use Rattle.lexer.proofs.known.word_guess.Tie as tie
+use Rattle.lexer.proofs.guess.word_guess.Statement.{statement}
+use Rattle.lexer.proofs.guess.word_guess.Tie as tie
 
 returns : tie.Need-returns
 unfolding guessOf rowsOf words textOf texts
