@@ -1,27 +1,28 @@
 -- The exposed count one token at a time, and the answers of `sanitize`.
 -- exposed-end, -on             the count of the tokens from a place on
 -- one-at-most, value-low       what one token counts for
--- refuse-limit, -room, -token, accept   the cases of the promise
+-- refuses, accept              the cases of the promise
 -- Assumes nothing.
-use mathlib.Core.Path.{_≡_}
-use mathlib.Core.Bool.{Bool, true, false, cond, or-true}
-use mathlib.Core.List.{List}
+use mathlib.Core.Path.{_≡_, sym, ap, _∙_}
+use mathlib.Core.Bool.{Bool, true, false, cond}
+use mathlib.Core.List.{List, [], _∷_}
 use Prim.Native.Nat.{ℕ, suc, _+_, _≤_, _<_}
 use native.Mathlib.Omega.{arith}
 use native.Mathlib.Numerals.{add-one}
 use lib.ListN.{length, drop, drop-of-length-le}
 use lib.Seq.{drop-cons}
-use lib.Dec.{ltb}
-use borrow.Author.Tests.{ne-eqb, lt-ltb, le-ltb}
+use borrow.Author.Tests.{ne-eqb}
 use Rattle.tokens.specs.Kinds as kind
-use Rattle.tokens.specs.Slots.{bare, room, tokensIn}
-use Rattle.tokens.specs.Formed.{malformed, firstPlace}
-use Rattle.tokens.specs.Answers.{limit}
+use Rattle.tokens.specs.Slots.{bare, room, tokensIn, laid}
+use Rattle.tokens.specs.Answers.{Answer, done, refusal}
+use Rattle.tokens.specs.Checks.{_then_, fine, checkCount, checkForm, afterwards}
 use Rattle.tokens.specs.declared.slot.Slot.{Slot}
-use Rattle.tokens.specs.declared.refusal.Refusal.the-variants.{BadCount, BadToken}
+use Rattle.tokens.specs.declared.refusal.Refusal.{Refusal}
+use Rattle.tokens.proofs.Checking.{refusal-then, refusal-after}
 use Rattle.tokens.proofs.Storing.{left-laid}
 use Rattle.sanitizer.specs.declared.Sanitized.the-variants.{Done, Refused}
 use Rattle.sanitizer.specs.Scans.{kindAt}
+use Rattle.sanitizer.specs.Run.{sanitized}
 use Rattle.sanitizer.specs.Exposed.{exposed, isExposed}
 use Rattle.sanitizer.specs.Promise.{sanitizeAnswer, sanitizeBuffer, Sanitizes, SanitizesTokens}
 
@@ -48,28 +49,29 @@ value-low k a b = rw (ne-eqb k kind.SingleQuoted a, ne-eqb k kind.Numeric b)
 
 -- ---- the answers
 module _ (ws : List ℕ) (n : ℕ) where
-  pub refuse-limit : limit < n → Sanitizes ws n (Refused (BadCount (room ws))) ws
-  unfolding sanitizeAnswer sanitizeBuffer
-  refuse-limit h = record { answer = rw (lt-ltb limit n h); buffer = rw (lt-ltb limit n h) }
+  abbrev after : Answer → List ℕ
+  after a = afterwards a (laid (sanitized (tokensIn ws n)) ws) ws
 
-  pub refuse-room : room ws < n → Sanitizes ws n (Refused (BadCount (room ws))) ws
-  unfolding sanitizeAnswer sanitizeBuffer
-  refuse-room h = record {
-    answer = rw (lt-ltb (room ws) n h, or-true (ltb limit n));
-    buffer = rw (lt-ltb (room ws) n h, or-true (ltb limit n));
+  answer-refused : (r : Refusal) → refusal r ≡ (checkCount ws n then checkForm (tokensIn ws n)) → refusal r ≡ sanitizeAnswer ws n
+  unfolding sanitizeAnswer
+  answer-refused r e =
+      sym (refusal-then r (done (exposed (sanitized (tokensIn ws n)) ∷ [])))
+      ∙ ap (λ (a : Answer). a then done (exposed (sanitized (tokensIn ws n)) ∷ [])) e
+
+  answer-done : fine ≡ (checkCount ws n then checkForm (tokensIn ws n)) → done (exposed (sanitized (tokensIn ws n)) ∷ []) ≡ sanitizeAnswer ws n
+  unfolding sanitizeAnswer
+  answer-done e = ap (λ (a : Answer). a then done (exposed (sanitized (tokensIn ws n)) ∷ [])) e
+
+  pub refuses : (r : Refusal) → refusal r ≡ (checkCount ws n then checkForm (tokensIn ws n)) → Sanitizes ws n (Refused r) ws
+  unfolding sanitizeBuffer
+  refuses r e = record {
+    answer = answer-refused r e;
+    buffer = sym (refusal-after r (laid (sanitized (tokensIn ws n)) ws) ws) ∙ ap after (answer-refused r e);
   }
 
-  module _ (a : n ≤ limit) (b : n ≤ room ws) where
-    pub refuse-token : firstPlace malformed (tokensIn ws n) < n → Sanitizes ws n (Refused (BadToken (record { 0 = firstPlace malformed (tokensIn ws n) }))) ws
-    unfolding sanitizeAnswer sanitizeBuffer
-    refuse-token h = record {
-      answer = rw (le-ltb limit n a, le-ltb (room ws) n b, lt-ltb (firstPlace malformed (tokensIn ws n)) n h);
-      buffer = rw (le-ltb limit n a, le-ltb (room ws) n b, lt-ltb (firstPlace malformed (tokensIn ws n)) n h);
-    }
-
-    pub accept : n ≤ firstPlace malformed (tokensIn ws n) → (r : ℕ) (ws′ : List ℕ) → SanitizesTokens ws n r ws′ → Sanitizes ws n (Done r) ws′
-    unfolding sanitizeAnswer sanitizeBuffer
-    accept h r ws′ d = record {
-      answer = rw (le-ltb limit n a, le-ltb (room ws) n b, le-ltb (firstPlace malformed (tokensIn ws n)) n h, d .count);
-      buffer = rw (le-ltb limit n a, le-ltb (room ws) n b, le-ltb (firstPlace malformed (tokensIn ws n)) n h) (left-laid b (d .left));
-    }
+  pub accept : fine ≡ (checkCount ws n then checkForm (tokensIn ws n)) → n ≤ room ws → (r : ℕ) (ws′ : List ℕ) → SanitizesTokens ws n r ws′ → Sanitizes ws n (Done r) ws′
+  unfolding sanitizeBuffer
+  accept e h r ws′ d = record {
+    answer = ap (λ (m : ℕ). done (m ∷ [])) (d .count) ∙ answer-done e;
+    buffer = left-laid h (d .left) ∙ ap after (answer-done e);
+  }

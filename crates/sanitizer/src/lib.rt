@@ -2,11 +2,10 @@
 // Document 01, "sanitizer.rs".
 use arms::State;
 use exposed::exposed;
-use tokens::formed::first_malformed;
+use tokens::check::Checked;
+use tokens::check::check_list;
 use tokens::place::Place;
-use tokens::refusal::LIMIT;
 use tokens::refusal::Refusal;
-use tokens::slot::whole_slots;
 use turn::turn_at;
 ghost use Prim.Native.Nat.{_≤_};
 ghost use Rattle.tokens.specs.Slots.{room, tokensIn, Left};
@@ -53,16 +52,9 @@ pub fn sanitize_tokens(slots: &mut [u32], count: usize) -> usize
 pub fn sanitize(slots: &mut [u32], count: usize) -> Sanitized
     ensures { λ r. ⌜ Sanitizes (now (slots .entry)) count r (now (slots .exit)) ⌝ }
 {
-    let room = whole_slots(slots);
-    if count > LIMIT {
-        return Sanitized::Refused(Refusal::BadCount(room));
-    }
-    if count > room {
-        return Sanitized::Refused(Refusal::BadCount(room));
-    }
-    let bad = first_malformed(slots, count);
-    if bad.0 < count {
-        return Sanitized::Refused(Refusal::BadToken(bad));
+    let of_list = check_list(slots, count);
+    if let Checked::Refused(why) = of_list {
+        return Sanitized::Refused(why);
     }
     Sanitized::Done(sanitize_tokens(slots, count))
 }
