@@ -2,6 +2,8 @@
 #[allow(dead_code)]
 #[path = "../compare/src/ours.rs"]
 mod ours;
+#[cfg(rust_source)]
+mod lexer;
 
 use std::hint::black_box;
 use std::time::Instant;
@@ -77,4 +79,6 @@ fn main() {
         let rust = time(count, || chars.iter().filter(|c| c.is_numeric()).count());
         line(&format!("numeric, {name}"), ours, rust);
     }
+    #[cfg(rust_source)]
+    lexer::run();
 }
