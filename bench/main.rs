@@ -3,6 +3,8 @@
 #[path = "../compare/src/ours.rs"]
 mod ours;
 #[cfg(rust_source)]
+mod lexer;
+#[cfg(rust_source)]
 #[allow(dead_code)]
 #[path = "../compare/src/tokens.rs"]
 mod tokens;
@@ -92,7 +94,9 @@ fn main() {
         line(&format!("numeric, {name}"), ours, rust);
     }
     #[cfg(rust_source)]
+    lexer::run();
+    #[cfg(rust_source)]
     writing::run();
     #[cfg(not(rust_source))]
-    println!("\nwriting: skipped, the ported Rust is not there (tools/bench says where it is looked for)");
+    println!("\nreading and writing: skipped, the ported Rust is not there (tools/bench says where it is looked for)");
 }

@@ -4,8 +4,8 @@
 -- verdict-valid, -bad         what a verdict says of the first bad byte
 -- whole-text                  a valid text is whole from its start on
 -- Assumes nothing.
-use mathlib.Core.Path.{_≡_, refl, sym, ap, _∙_}
-use mathlib.Core.List.{List, [], _∷_}
+use mathlib.Core.Path.{_≡_, refl, sym, ap}
+use mathlib.Core.List.{List}
 use mathlib.Core.Option.{Option, none, some}
 use Prim.Native.Nat.{ℕ, _≤_, _<_}
 use native.Mathlib.Omega.{arith}
@@ -14,17 +14,16 @@ use borrow.Author.Tests.{lt-ltb, le-ltb}
 use Rattle.chars.specs.Utf8.{firstBad}
 use Rattle.chars.specs.Steps.{verdictOf}
 use Rattle.chars.specs.declared.offset.Offset.{Offset}
-use Rattle.chars.specs.declared.utf8.Verdict.{Verdict}
 use Rattle.chars.specs.declared.utf8.Verdict.the-variants as verdict
 use Rattle.chars.proofs.Whole.{whole}
 use Rattle.tokens.specs.Slots.{room, laid}
-use Rattle.tokens.specs.Answers.{limit, done}
+use Rattle.tokens.specs.Answers.{limit}
 use Rattle.tokens.specs.declared.refusal.Refusal.the-variants.{TextTooLong, NotUtf8, NoRoomTokens}
 use Rattle.lexer.specs.declared.lex.Lexed.{Lexed}
 use Rattle.lexer.specs.declared.lex.Lexed.the-variants.{Done, Refused}
 use Rattle.lexer.specs.Ways.{pinned}
 use Rattle.lexer.specs.Read.{reading, tokens, stopAt, Whole}
-use Rattle.lexer.specs.Lexes.{paper, validAnswer, validBuffer, lexAnswer, lexBuffer, Lexes, Valid}
+use Rattle.lexer.specs.Lexes.{validAnswer, validBuffer, lexAnswer, lexBuffer, Lexes, Valid}
 use Rattle.lexer.proofs.Characters.{clash}
 
 module _ (t ws left : List ℕ) where

@@ -10,16 +10,16 @@
 use mathlib.Core.Path.{_≡_, refl, sym, ap, _∙_}
 use mathlib.Core.Bool.{Bool, true, false, cond, not, _&&_, and-false}
 use mathlib.Core.List.{List, [], _∷_, _++_}
-use Prim.Native.Nat.{ℕ, zero, suc, _+_, _-_, _≤_, _<_}
-use native.Mathlib.Nat.{add-zero, zero-add, suc-add, add-suc}
+use Prim.Native.Nat.{ℕ, suc, _+_, _≤_, _<_}
+use native.Mathlib.Nat.{add-zero, zero-add, suc-add}
 use native.Mathlib.Numerals.{add-one}
 use native.Mathlib.Omega.{arith}
 use lib.Dec.{eqb}
 use lib.ListN.{length, getD, drop, drop-of-length-le}
 use lib.Seq.{drop-cons}
 use borrow.Author.Tests.{ne-eqb}
-use Rattle.chars.specs.Utf8.{chars, width, encode, encodeAll}
-use Rattle.lexer.specs.Scans.{scan, span, bytes, reach, closes, escapes, Before, ended, then, inLine, inRun}
+use Rattle.chars.specs.Utf8.{chars, encode, encodeAll}
+use Rattle.lexer.specs.Scans.{scan, span, bytes, reach, closes, escapes, ended, then, inLine, inRun}
 use Rattle.lexer.specs.Read.{Whole}
 use Rattle.lexer.proofs.Characters.{High, Encoded, one, many, encoded}
 

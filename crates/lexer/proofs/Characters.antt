@@ -7,20 +7,17 @@
 -- whole-step       past a character the rest of the text is whole again
 -- readable-view    where the rest is whole and not empty a character stands
 -- Assumes nothing.
-use mathlib.Core.Path.{_≡_, refl, sym, ap, _∙_, subst}
-use mathlib.Core.Bool.{Bool, true, false, cond, _&&_, _||_}
-use mathlib.Core.Logic.{_⊎_, inl, inr}
-use mathlib.Core.List.{List, [], _∷_, _++_, append-nil}
-use Prim.Native.Nat.{ℕ, zero, suc, _+_, _-_, _*_, _/_, _%_, _≤_, _<_}
-use native.Mathlib.Nat.{add-suc}
+use mathlib.Core.Path.{_≡_, refl, sym, ap, _∙_}
+use mathlib.Core.Logic.{inl, inr}
+use mathlib.Core.List.{List, [], _∷_, _++_}
+use Prim.Native.Nat.{ℕ, zero, suc, _+_, _/_, _%_, _≤_, _<_}
 use native.Mathlib.Decide.{decLt}
-use native.Mathlib.Numerals.{add-one}
 use native.Mathlib.Omega.{arith}
-use lib.Dec.{eqb, ltb}
-use lib.ListN.{length, getD, drop, length-drop, length-append}
-use lib.Seq.{drop-drop, getD-drop, drop-append-seam, drop-cons}
-use borrow.Author.Tests.{le-ltb, lt-ltb, eq-eqb, ne-eqb}
-use Rattle.chars.specs.Utf8.{Front, char, bad, end, front, chars, width, encode, encodeAll, isScalar}
+use lib.Dec.{eqb}
+use lib.ListN.{length, getD, drop, length-drop}
+use lib.Seq.{drop-drop, getD-drop, drop-append-seam}
+use borrow.Author.Tests.{le-ltb, lt-ltb, ne-eqb}
+use Rattle.chars.specs.Utf8.{Front, char, bad, end, front, chars, width, encode, encodeAll}
 use Rattle.chars.specs.Steps.{offset, placed, stepAt}
 use Rattle.chars.specs.declared.offset.Offset.{Offset}
 use Rattle.chars.specs.declared.utf8.Step.{Step}

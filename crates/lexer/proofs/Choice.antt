@@ -5,25 +5,24 @@
 -- Tells, rule-tells   a rule up to 8 has an ASCII character, a word an alphabetic, a number a numeric or `-`
 -- stands-is      the look-ahead by a byte is the look-ahead by a character
 -- Assumes nothing.
-use mathlib.Core.Path.{_≡_, refl, sym, ap, _∙_}
+use mathlib.Core.Path.{_≡_, refl, sym, _∙_}
 use mathlib.Core.Bool.{Bool, true, false, cond, not, _&&_, _||_}
-use mathlib.Core.List.{List, [], _∷_}
-use Prim.Native.Nat.{ℕ, _+_, _≤_, _<_}
+use mathlib.Core.List.{List}
+use Prim.Native.Nat.{ℕ, _≤_, _<_}
 use native.Mathlib.Decide.{decLt}
 use native.Mathlib.Omega.{arith}
 use lib.Dec.{eqb}
 use lib.ListN.{length, getD, drop}
-use borrow.Author.Tests.{eq-eqb, ne-eqb, eqb-true}
-use Rattle.chars.specs.Utf8.{chars, encode}
+use borrow.Author.Tests.{ne-eqb, eqb-true}
+use Rattle.chars.specs.Utf8.{chars}
 use Rattle.chars.specs.Class.{numeric}
 use Rattle.chars.proofs.Bytes.{and-l}
-use Rattle.chars.proofs.Stepping.{Stepped}
 use Rattle.lexer.specs.declared.rule.State.{State}
 use Rattle.lexer.specs.declared.rule.Rule.{Rule}
 use Rattle.lexer.specs.declared.rule.Rule.the-variants.{Quoted, Line, Block, Single, Numbered, Run, Charset, Word, Number, Unknown}
 use Rattle.lexer.specs.Ways.{Ways, pinned}
 use Rattle.lexer.specs.Rules.{headIs, others, ruleOf, atHash, atDash, atSlash}
-use Rattle.lexer.specs.Read.{Whole, Readable}
+use Rattle.lexer.specs.Read.{Whole}
 use Rattle.lexer.proofs.Characters.{Here, stands, readable-here, lead-low, lead-high}
 use Rattle.lexer.proofs.Reaching.{chars-end}
 use Rattle.lexer.proofs.Classes.{numeric-in, numeric-out, capital-in, small-in, alphabetic-out}

@@ -3,16 +3,14 @@
 -- goes-numeric, goes-letter               what goes on in a charset, a word, a number by its class
 -- numerics-out, charset-out, word-out, number-out   what goes on in none
 -- Assumes nothing.
-use mathlib.Core.Path.{_≡_, refl, sym, ap, _∙_}
-use mathlib.Core.Bool.{Bool, true, false, _&&_, _||_, or-true}
-use mathlib.Core.Logic.{_⊎_, inl, inr}
+use mathlib.Core.Path.{_≡_, sym}
+use mathlib.Core.Bool.{true, false, or-true}
 use Prim.Native.Nat.{ℕ, _≤_, _<_}
 use native.Mathlib.Omega.{arith}
-use lib.Dec.{eqb}
-use borrow.Author.Tests.{eq-eqb, ne-eqb}
+use borrow.Author.Tests.{ne-eqb}
 use Rattle.chars.specs.Class.{alphabetic, numeric}
 use Rattle.chars.proofs.Spelled.{upper, lower, no-letter, digit, no-digit}
-use Rattle.lexer.specs.declared.goes.Stop.the-variants.{Numerics, Charset, Word, Number}
+use Rattle.lexer.specs.declared.goes.Stop.the-variants.{Charset, Word, Number}
 use Rattle.lexer.specs.Ways.{pinned}
 use Rattle.lexer.specs.Scans.{inCharset, inWord, inNumber, goesOn}
 

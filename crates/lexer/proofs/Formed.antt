@@ -4,18 +4,18 @@
 -- chars-scalars       the characters of a text are scalar values
 -- all-formed          each token of a reading is well formed, so the first malformed place is the length
 -- Assumes nothing.
-use mathlib.Core.Path.{_≡_, refl, sym, ap, _∙_}
+use mathlib.Core.Path.{_≡_, refl}
 use mathlib.Core.Bool.{Bool, true, false, cond, not, _&&_, _||_}
 use mathlib.Core.List.{List, [], _∷_}
 use Prim.Native.Nat.{ℕ, zero, suc, _+_, _-_, _≤_, _<_}
 use native.Mathlib.Omega.{arith}
 use lib.Dec.{eqb, ltb}
-use lib.ListN.{length, take, drop}
-use borrow.Author.Tests.{eqb-true, ne-eqb, eq-eqb, ltb-true, not-true, lt-ltb}
+use lib.ListN.{length, drop}
+use borrow.Author.Tests.{eqb-true, ne-eqb, ltb-true, not-true, lt-ltb}
 use Rattle.chars.specs.Utf8.{chars, width, isScalar, allScalars}
 use Rattle.chars.proofs.Bytes.{and-l, and-r}
 use Rattle.tokens.specs.Kinds as kind
-use Rattle.tokens.specs.Texts.{Row, textOf, texts}
+use Rattle.tokens.specs.Texts.{Row}
 use Rattle.tokens.specs.Formed.{carriesOffsets, wellFormed, malformed, firstPlace}
 use Rattle.tokens.specs.declared.slot.Slot.{Slot}
 use Rattle.lexer.specs.declared.guess.Sort.{Sort}
@@ -26,8 +26,8 @@ use Rattle.lexer.specs.declared.rule.Rule.{Rule}
 use Rattle.lexer.specs.declared.rule.Rule.the-variants.{Quoted, Line, Block, Single, Numbered, Run, Charset, Word, Number, Unknown}
 use Rattle.lexer.specs.Ways.{Ways}
 use Rattle.lexer.specs.Known.{equal, find, words, runs, zeros, rowsOf, knownKind}
-use Rattle.lexer.specs.Rules.{Carried, nothing, slice, scalar, Out, halt, took, known, headIs, starKind, stateAfter, others, ruleOf, quoted, line, block, numbered, run, charset, word, number, byRule, readOne}
-use Rattle.lexer.specs.Read.{slotOf, Reading, stopped, next, tokens, onward, go, reading}
+use Rattle.lexer.specs.Rules.{Carried, nothing, slice, scalar, Out, halt, took, known, headIs, starKind, stateAfter, ruleOf, quoted, line, block, numbered, run, charset, word, number, byRule, readOne}
+use Rattle.lexer.specs.Read.{slotOf, Reading, tokens, onward, go, reading}
 use Rattle.lexer.proofs.Characters.{View, here, past, view}
 use Rattle.lexer.proofs.Reaching.{chars-end}
 

@@ -8,9 +8,9 @@
 -- any-content             two texts alike but for the content: the same pieces, but for that one's text
 -- Assumes nothing.
 use mathlib.Core.Path.{_≡_, refl, sym, ap, _∙_}
-use mathlib.Core.Bool.{Bool, true, false, cond, not, _&&_, _||_}
-use mathlib.Core.List.{List, [], _∷_, _++_, append-assoc}
-use Prim.Native.Nat.{ℕ, zero, suc, _+_, _-_, _≤_, _<_}
+use mathlib.Core.Bool.{Bool, true, false, cond, not}
+use mathlib.Core.List.{List, [], _∷_, _++_}
+use Prim.Native.Nat.{ℕ, zero, suc, _-_, _≤_, _<_}
 use native.Mathlib.Nat.{le-of-suc-le-suc}
 use native.Mathlib.Numerals.{add-one}
 use native.Mathlib.Decide.{decLe}
@@ -25,10 +25,9 @@ use Rattle.lexer.specs.declared.rule.State.{State}
 use Rattle.lexer.specs.declared.rule.Rule.{Rule}
 use Rattle.lexer.specs.declared.rule.Rule.the-variants.{Quoted, Line, Block, Single, Numbered, Run, Charset, Word, Number, Unknown}
 use Rattle.lexer.specs.Ways.{Ways}
-use Rattle.lexer.specs.Scans.{scan, span, quoteLen, blockLen, closes, escapes, ended, then, inLine, inRun, goesOn}
+use Rattle.lexer.specs.Scans.{scan, span, quoteLen, closes, escapes, ended, then, inLine, inRun, goesOn}
 use Rattle.lexer.specs.Known.{knownKind}
-use Rattle.lexer.specs.Rules.{Carried, nothing, slice, scalar, Out, halt, took, sliced, known, oneMore, headIs, stateAfter, ruleOf, quoted, line, block, numbered, run, charset, word, number, byRule, readOne}
-use Rattle.lexer.proofs.Characters.{clash}
+use Rattle.lexer.specs.Rules.{Carried, nothing, slice, scalar, Out, halt, took, known, oneMore, headIs, stateAfter, ruleOf, quoted, line, block, numbered, run, charset, word, number, byRule, readOne}
 use Rattle.lexer.proofs.Pieces.{Piece, piece, pieceOf, onPieces, pieces, Bounded, one-bounded}
 
 -- ---- scans

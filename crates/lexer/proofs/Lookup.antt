@@ -5,23 +5,23 @@
 -- lookup-is                          guess and confirmation are the search
 -- lookup-long                        a text longer than any row is not known
 -- Assumes nothing.
-use mathlib.Core.Path.{_≡_, refl, sym, ap, _∙_, subst}
-use mathlib.Core.Bool.{Bool, true, false, cond, not, _&&_, and-false}
-use mathlib.Core.List.{List, [], _∷_, _++_, map}
-use Prim.Native.Nat.{ℕ, zero, suc, _+_, _-_, _*_, _%_, _^_, _≤_, _<_}
+use mathlib.Core.Path.{_≡_, refl, sym, ap, _∙_}
+use mathlib.Core.Bool.{Bool, true, false, cond, not, _&&_}
+use mathlib.Core.List.{List, [], _∷_, map}
+use Prim.Native.Nat.{ℕ, zero, suc, _+_, _*_, _%_, _^_, _≤_, _<_}
 use native.Mathlib.Numerals.{add-one}
 use native.Mathlib.Omega.{arith}
 use lib.Dec.{eqb, leb}
 use lib.ListN.{length, getD, take, drop, length-take, length-drop, length-map, drop-of-length-le}
 use lib.Seq.{drop-cons, getD-take, getD-drop}
-use borrow.Author.Tests.{eq-eqb, ne-eqb, eqb-true, leb-true}
+use borrow.Author.Tests.{eq-eqb, eqb-true, leb-true}
 use Rattle.chars.proofs.Bytes.{and-l, and-r}
 use Rattle.tokens.specs.Kinds as kind
 use Rattle.tokens.specs.Texts.{Row, textOf, texts}
 use Rattle.lexer.specs.declared.guess.Sort.{Sort}
 use Rattle.lexer.specs.declared.guess.Sort.the-variants.{Words, Runs, Zeros}
 use Rattle.lexer.specs.declared.guess.Guess.{Guess}
-use Rattle.lexer.specs.Known.{lower, equal, find, words, runs, zeros, rowsOf, knownKind, letters, packed, guessIn, firstRow, guessOf}
+use Rattle.lexer.specs.Known.{lower, equal, find, words, runs, zeros, rowsOf, letters, packed, guessIn, guessOf}
 use Rattle.lexer.proofs.Characters.{clash}
 
 -- ---- the comparison

@@ -8,8 +8,8 @@
 use mathlib.Core.Path.{_≡_, refl, sym, ap, _∙_}
 use mathlib.Core.Bool.{Bool, true, false, cond, not}
 use mathlib.Core.List.{List, [], _∷_, _++_, map}
-use Prim.Native.Nat.{ℕ, zero, suc, _+_, _-_, _≤_, _<_}
-use native.Mathlib.Nat.{add-zero, add-assoc, zero-add}
+use Prim.Native.Nat.{ℕ, zero, suc, _+_, _-_, _≤_}
+use native.Mathlib.Nat.{add-assoc, zero-add}
 use native.Mathlib.Omega.{arith}
 use lib.Dec.{eqb}
 use lib.ListN.{length, take, drop, length-drop, length-append}
@@ -20,7 +20,7 @@ use Rattle.chars.proofs.Bytes.{and-l, and-r}
 use Rattle.chars.proofs.Whole.{whole}
 use Rattle.tokens.specs.Kinds as kind
 use Rattle.tokens.specs.Formed.{carriesOffsets}
-use Rattle.tokens.specs.Slots.{bare, kinds}
+use Rattle.tokens.specs.Slots.{kinds}
 use Rattle.tokens.specs.Content.{content}
 use Rattle.tokens.specs.declared.slot.Slot.{Slot}
 use Rattle.tokens.proofs.Parts.{content-within}
@@ -34,7 +34,7 @@ use Rattle.lexer.specs.Ways.{Ways}
 use Rattle.lexer.specs.Scans.{bytes, span, inRun, goesOn}
 use Rattle.lexer.specs.Known.{knownKind}
 use Rattle.lexer.specs.Rules.{Carried, nothing, slice, scalar, Out, halt, took, sliced, known, stateAfter, ruleOf, quoted, line, block, numbered, run, charset, word, number, byRule, readOne}
-use Rattle.lexer.specs.Read.{slotOf, partOf, Reading, stopped, next, tokens, onward, go, reading, Whole}
+use Rattle.lexer.specs.Read.{slotOf, Reading, tokens, onward, go, reading}
 use Rattle.lexer.proofs.Characters.{clash, encode-length}
 use Rattle.lexer.proofs.Formed.{fits, Fits, one-fits, chars-scalars, plain-not, plain-known, unknown-not, carries-known}
 

@@ -6,14 +6,14 @@
 -- whole-reach          where the rest was whole it is whole again
 -- span-on, span-off    one turn of a scan by a test
 -- Assumes nothing.
-use mathlib.Core.Path.{_≡_, refl, sym, ap, _∙_}
-use mathlib.Core.Bool.{Bool, true, false, cond, not}
-use mathlib.Core.List.{List, [], _∷_, _++_}
-use Prim.Native.Nat.{ℕ, zero, suc, _+_, _-_, _≤_, _<_}
-use native.Mathlib.Nat.{add-zero, zero-add, add-assoc}
+use mathlib.Core.Path.{_≡_, refl}
+use mathlib.Core.Bool.{Bool, true, false}
+use mathlib.Core.List.{List, [], _∷_}
+use Prim.Native.Nat.{ℕ, zero, suc, _+_, _≤_}
+use native.Mathlib.Nat.{add-zero, add-assoc}
 use native.Mathlib.Omega.{arith}
 use lib.ListN.{length, drop, drop-of-length-le}
-use Rattle.chars.specs.Utf8.{chars, charsFrom, width}
+use Rattle.chars.specs.Utf8.{chars, charsFrom}
 use Rattle.chars.proofs.Stepping.{Stepped}
 use Rattle.lexer.specs.Scans.{scan, span, bytes, reach}
 use Rattle.lexer.specs.Read.{Whole}

@@ -1,15 +1,15 @@
 -- The known texts are ASCII, so a text may be looked up by its bytes.
 -- known-bytes   the kind of some characters is that of their bytes
 -- Assumes nothing.
-use mathlib.Core.Path.{_≡_, refl, sym, ap, _∙_}
-use mathlib.Core.Bool.{Bool, true, false, cond, _&&_}
+use mathlib.Core.Path.{_≡_, refl, ap, _∙_}
+use mathlib.Core.Bool.{Bool, true, false, _&&_}
 use mathlib.Core.List.{List, [], _∷_, _++_, map}
 use Prim.Native.Nat.{ℕ, zero, suc, _+_, _≤_, _<_}
 use native.Mathlib.Numerals.{one-add}
 use native.Mathlib.Nat.{suc-add}
 use native.Mathlib.Omega.{arith}
-use lib.Dec.{eqb, leb, ltb}
-use lib.ListN.{length, take, drop}
+use lib.Dec.{eqb, ltb}
+use lib.ListN.{take, drop}
 use borrow.Author.Tests.{ne-eqb, ltb-true}
 use Rattle.chars.specs.Utf8.{chars, width, encode, encodeAll}
 use Rattle.chars.proofs.Bytes.{and-l, and-r}

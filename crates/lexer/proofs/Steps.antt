@@ -6,36 +6,34 @@
 -- Lead, lead-is              a character that passes a test stands at the offset
 -- number-dash, number-same   where the scan of a number starts
 -- Assumes nothing.
-use mathlib.Core.Path.{_≡_, refl, sym, ap, _∙_, subst}
-use mathlib.Core.Bool.{Bool, true, false, cond, not, _&&_, _||_}
-use mathlib.Core.List.{List, [], _∷_, _++_}
+use mathlib.Core.Path.{_≡_, refl, sym, ap, _∙_}
+use mathlib.Core.Bool.{Bool, true, false, cond, not}
+use mathlib.Core.List.{List, [], _∷_}
 use Prim.Native.Nat.{ℕ, zero, suc, _+_, _-_, _≤_, _<_}
 use native.Mathlib.Nat.{add-assoc, add-zero, zero-add, suc-add}
 use native.Mathlib.Omega.{arith}
-use lib.Dec.{eqb, ltb}
+use lib.Dec.{eqb}
 use lib.ListN.{length, getD, take, drop}
-use borrow.Author.Tests.{eq-eqb, ne-eqb, eqb-true, lt-ltb}
+use borrow.Author.Tests.{eq-eqb, ne-eqb, eqb-true}
 use Rattle.chars.specs.Utf8.{chars, width}
 use Rattle.chars.specs.Steps.{offset}
 use Rattle.chars.specs.declared.offset.Offset.{Offset}
-use Rattle.chars.proofs.Bytes.{and-l, and-r, width-1}
+use Rattle.chars.proofs.Bytes.{and-r, width-1}
 use Rattle.chars.proofs.Stepping.{Stepped}
 use Rattle.tokens.specs.Kinds as kind
 use Rattle.tokens.specs.Slots.{bare}
 use Rattle.tokens.specs.Answers.{limit}
-use Rattle.lexer.specs.declared.goes.Stop.{Stop}
 use Rattle.lexer.specs.declared.goes.Stop.the-variants as stop
 use Rattle.lexer.specs.declared.guess.Sort.{Sort}
 use Rattle.lexer.specs.declared.guess.Sort.the-variants.{Words, Runs, Zeros}
-use Rattle.lexer.specs.declared.read.Step.{Step}
 use Rattle.lexer.specs.declared.read.Step.the-variants.{Token, Stopped}
-use Rattle.lexer.specs.Ways.{Ways, pinned}
-use Rattle.lexer.specs.Scans.{scan, span, bytes, reach, closes, escapes, quoteLen, blockLen, inLine, inRun, inWord, inNumber, goesOn}
+use Rattle.lexer.specs.Ways.{pinned}
+use Rattle.lexer.specs.Scans.{scan, span, bytes, reach, closes, escapes, quoteLen, blockLen, inLine, inRun, goesOn}
 use Rattle.lexer.specs.Known.{knownKind}
-use Rattle.lexer.specs.Rules.{Out, halt, took, nothing, slice, scalar, sliced, known, oneMore, quoted, line, block, numbered, run, charset, word, number, unknown, startsWord, startsNumber}
-use Rattle.lexer.specs.Read.{partOf, stepOf, onChars, readBy, Whole, Readable, Ascii, Leads, NumberFrom}
-use Rattle.lexer.proofs.Characters.{clash, Here, stands, readable-here, stepped-ascii, whole-ascii, lead-low, lead-high, low-lead}
-use Rattle.lexer.proofs.Reaching.{reach-rest, reach-in, reach-le, reach-end, whole-reach, span-on, chars-end}
+use Rattle.lexer.specs.Rules.{Out, halt, took, nothing, slice, sliced, known, oneMore, quoted, line, block, numbered, run, charset, word, number, unknown, startsWord, startsNumber}
+use Rattle.lexer.specs.Read.{partOf, stepOf, readBy, Whole, Ascii, Leads, NumberFrom}
+use Rattle.lexer.proofs.Characters.{clash, Here, stands, readable-here, stepped-ascii, whole-ascii, lead-low, low-lead}
+use Rattle.lexer.proofs.Reaching.{reach-rest, reach-in, reach-le, whole-reach, span-on, chars-end}
 use Rattle.lexer.proofs.Classes.{word-alnum, charset-letter, number-numeric}
 use Rattle.lexer.proofs.Spelling.{known-bytes}
 

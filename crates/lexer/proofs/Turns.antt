@@ -10,15 +10,15 @@ use mathlib.Core.Path.{_≡_, refl, sym, ap, _∙_}
 use mathlib.Core.Bool.{Bool, true, false, cond}
 use mathlib.Core.List.{List, [], _∷_, _++_}
 use Prim.Native.Nat.{ℕ, zero, suc, _+_, _-_, _≤_, _<_}
-use native.Mathlib.Nat.{add-zero, zero-add, add-assoc}
+use native.Mathlib.Nat.{add-zero, add-assoc}
 use native.Mathlib.Decide.{decLt}
 use native.Mathlib.Numerals.{add-one}
 use native.Mathlib.Omega.{arith}
 use lib.Dec.{eqb, ltb}
-use lib.ListN.{length, take, drop, getD, length-drop, length-take, length-append}
-use lib.Seq.{drop-cons, drop-drop, take-suc, take-all, take-take, length-take-le, drop-nil}
+use lib.ListN.{length, take, drop, getD, length-drop}
+use lib.Seq.{drop-cons, drop-drop, take-suc, take-all, take-take, length-take-le}
 use borrow.Author.Tests.{lt-ltb, le-ltb}
-use Rattle.chars.specs.Utf8.{chars, charsFrom, width}
+use Rattle.chars.specs.Utf8.{chars, width}
 use Rattle.chars.specs.Steps.{offset}
 use Rattle.chars.specs.declared.offset.Offset.{Offset}
 use Rattle.chars.proofs.Stepping.{Stepped}
@@ -27,14 +27,13 @@ use Rattle.tokens.specs.Slots.{bare, room, stored, laid}
 use Rattle.tokens.proofs.Storing.{laid-none, laid-more, length-stored}
 use Rattle.lexer.specs.declared.rule.State.{State}
 use Rattle.lexer.specs.declared.rule.State.the-variants.{Default}
-use Rattle.lexer.specs.declared.read.Step.{Step}
 use Rattle.lexer.specs.declared.read.Step.the-variants.{Token, Stopped}
 use Rattle.lexer.specs.Ways.{Ways}
 use Rattle.lexer.specs.Scans.{bytes, reach}
 use Rattle.lexer.specs.Rules.{Carried, nothing, slice, scalar, Out, halt, took, readOne, stateAfter}
-use Rattle.lexer.specs.Read.{slotOf, Reading, stopped, next, tokens, stopAt, onward, go, reading, starBefore, stepOf, onChars, readBy, Whole, Readable, kept}
+use Rattle.lexer.specs.Read.{slotOf, Reading, stopped, next, tokens, stopAt, onward, go, reading, starBefore, stepOf, readBy, Whole, Readable, kept}
 use Rattle.lexer.proofs.Characters.{clash, View, here, past, view, Here, stands, readable-here, star-step}
-use Rattle.lexer.proofs.Reaching.{chars-end, whole-reach, reach-in}
+use Rattle.lexer.proofs.Reaching.{chars-end, whole-reach}
 use Rattle.lexer.proofs.Steps.{read-at}
 
 module _ (w : Ways) where

@@ -12,7 +12,7 @@ use Rattle.tokens.specs.Answers.{Answer, done, limit, textTooLong, notUtf8, noR
 use Rattle.lexer.specs.declared.lex.Lexed.{Lexed}
 use Rattle.lexer.specs.declared.lex.Lexed.the-variants.{Done, Refused}
 use Rattle.lexer.specs.Ways.{Ways, pinned}
-use Rattle.lexer.specs.Read.{Reading, tokens, stopAt, reading}
+use Rattle.lexer.specs.Read.{tokens, stopAt, reading}
 
 -- the code's answer in the paper's numbers
 abbrev pub paper : Lexed → Answer

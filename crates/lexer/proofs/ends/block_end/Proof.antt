@@ -1,11 +1,10 @@
 -- `lexer::ends::block_end` meets its contract. The invariant: the scan over bytes from here on ends at the same offset, where `star` and
 -- `closed` are what it keeps in mind. Assumes nothing.
 use mathlib.Core.Path.{_≡_, refl, sym, ap, _∙_}
-use mathlib.Core.Bool.{Bool, true, false, not, _&&_}
+use mathlib.Core.Bool.{Bool, false, _&&_}
 use mathlib.Core.Logic.{⊎-elim}
-use Prim.Native.Nat.{ℕ, _+_, _-_}
+use Prim.Native.Nat.{_+_, _-_}
 use native.Mathlib.Omega.{arith}
-use borrow.Author.Needs.{needs}
 use lib.Dec.{eqb}
 use lib.ListN.{length, drop, getD}
 use denote.Ref.{now}

@@ -1,13 +1,12 @@
 -- `lexer::ends::quote_end` meets its contract. The invariant: the scan over bytes from here on ends at the same offset, with no odd run of
 -- backslashes before. Assumes nothing.
 use mathlib.Core.Path.{_≡_, refl, sym, ap, _∙_}
-use mathlib.Core.Bool.{Bool, true, false, not, _&&_}
+use mathlib.Core.Bool.{Bool, true, false}
 use mathlib.Core.List.{List}
 use mathlib.Core.Logic.{⊎-elim}
 use Prim.Native.Nat.{ℕ, _+_, _-_, _≤_, _<_}
 use native.Mathlib.Omega.{arith}
 use borrow.Author.Tests.{eq-eqb, ne-eqb}
-use lib.Dec.{eqb}
 use lib.ListN.{length, drop, getD}
 use denote.Ref.{now}
 use Rattle.chars.specs.Steps.{offset}

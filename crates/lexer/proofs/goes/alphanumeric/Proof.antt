@@ -1,5 +1,5 @@
 -- `lexer::goes::alphanumeric` meets its contract. Assumes nothing.
-use mathlib.Core.Path.{_≡_, sym, ap, _∙_}
+use mathlib.Core.Path.{sym, _∙_}
 use borrow.Author.Needs.{needs}
 use Rattle.lexer.proofs.Classes.{charset-letter, charset-out}
 use Rattle.lexer.proofs.goes.alphanumeric.Statement.{statement}

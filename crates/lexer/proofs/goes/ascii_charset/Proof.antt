@@ -1,5 +1,5 @@
 -- `lexer::goes::ascii_charset` meets its contract, by the ranges of the letters and the digits. Assumes nothing.
-use mathlib.Core.Path.{_≡_, sym, ap, _∙_}
+use mathlib.Core.Path.{sym, _∙_}
 use native.Mathlib.Omega.{arith}
 use Rattle.lexer.proofs.Classes.{numeric-in, numeric-out, capital-in, small-in, alphabetic-out, charset-numeric, charset-letter, charset-out}
 use Rattle.lexer.proofs.goes.ascii_charset.Statement.{statement}

@@ -1,5 +1,5 @@
 -- `lexer::goes::ascii_number` meets its contract, by the range of the digits. Assumes nothing.
-use mathlib.Core.Path.{_≡_, sym, ap, _∙_}
+use mathlib.Core.Path.{sym, _∙_}
 use native.Mathlib.Omega.{arith}
 use Rattle.lexer.specs.Scans.{goesOn, inNumber}
 use Rattle.lexer.proofs.Classes.{numeric-in, numeric-out, number-numeric, number-out}

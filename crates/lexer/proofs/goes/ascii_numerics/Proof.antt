@@ -1,5 +1,5 @@
 -- `lexer::goes::ascii_numerics` meets its contract: the table's numerics below 0x80 are the ten digits. Assumes nothing.
-use mathlib.Core.Path.{_≡_, sym, ap, _∙_}
+use mathlib.Core.Path.{sym}
 use native.Mathlib.Omega.{arith}
 use Rattle.lexer.specs.Scans.{goesOn}
 use Rattle.lexer.proofs.Classes.{numeric-in, numeric-out}

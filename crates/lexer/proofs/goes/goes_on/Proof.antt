@@ -1,5 +1,4 @@
 -- `lexer::goes::goes_on` meets its contract. Assumes nothing.
-use mathlib.Core.Path.{_≡_, sym, ap, _∙_}
 use borrow.Author.Needs.{needs}
 use Rattle.lexer.specs.Scans.{goesOn}
 use Rattle.lexer.proofs.goes.goes_on.Statement.{statement}

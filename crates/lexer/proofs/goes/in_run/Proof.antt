@@ -1,5 +1,4 @@
 -- `lexer::goes::in_run` meets its contract. Assumes nothing.
-use mathlib.Core.Path.{_≡_, sym, ap, _∙_}
 use borrow.Author.Tests.{ne-eqb}
 use Rattle.lexer.specs.Scans.{inRun}
 use Rattle.lexer.proofs.goes.in_run.Statement.{statement}

@@ -1,5 +1,5 @@
 -- `lexer::goes::in_word` meets its contract. Assumes nothing.
-use mathlib.Core.Path.{_≡_, sym, ap, _∙_}
+use mathlib.Core.Path.{sym, _∙_}
 use borrow.Author.Needs.{needs}
 use Rattle.lexer.specs.Scans.{goesOn, inWord}
 use Rattle.lexer.proofs.Classes.{word-out}

@@ -1,5 +1,4 @@
 -- `lexer::guess::guess_row` meets its contract. Assumes nothing.
-use mathlib.Core.Path.{_≡_, refl, sym, ap, _∙_}
 use borrow.Author.Needs.{needs}
 use Rattle.lexer.proofs.guess.guess_row.Statement.{statement}
 use Rattle.lexer.proofs.guess.guess_row.Tie as tie

@@ -1,5 +1,4 @@
 -- `lexer::guess::run_guess` meets its contract: the numbers of its arms are the packed texts, by computation. Assumes nothing.
-use mathlib.Core.Path.{_≡_, refl}
 use borrow.Author.Tests.{ne-eqb}
 use Rattle.lexer.specs.Known.{guessOf, rowsOf, runs}
 use Rattle.lexer.proofs.guess.run_guess.Statement.{statement}

@@ -1,5 +1,4 @@
 -- `lexer::guess::word_guess` meets its contract: the numbers of its arms are the packed texts, by computation. Assumes nothing.
-use mathlib.Core.Path.{_≡_, refl}
 use borrow.Author.Tests.{ne-eqb}
 use Rattle.tokens.specs.Texts.{textOf, texts}
 use Rattle.lexer.specs.Known.{guessOf, rowsOf, words}

@@ -1,17 +1,15 @@
 -- `lexer::known::known_kind` meets its contract: the guess, confirmed, is the search. Assumes nothing.
-use mathlib.Core.Path.{_≡_, refl, sym, ap, _∙_}
+use mathlib.Core.Path.{_≡_, sym, ap, _∙_}
 use mathlib.Core.Bool.{Bool, cond}
 use mathlib.Core.List.{List, map}
-use Prim.Native.Nat.{ℕ, _+_, _-_, _≤_, _<_}
+use Prim.Native.Nat.{ℕ, _-_}
 use native.Mathlib.Omega.{arith}
 use borrow.Author.Needs.{needs}
-use borrow.Author.Tests.{eq-eqb, ne-eqb}
+use borrow.Author.Tests.{ne-eqb}
 use lib.ListN.{length, take, drop}
 use denote.Ref.{now}
 use Rattle.tokens.specs.Kinds as kind
-use Rattle.lexer.specs.declared.guess.Sort.{Sort}
-use Rattle.lexer.specs.declared.guess.Guess.{Guess}
-use Rattle.lexer.specs.Known.{lower, equal, find, rowsOf, knownKind, packed, guessOf}
+use Rattle.lexer.specs.Known.{lower, knownKind, guessOf}
 use Rattle.lexer.proofs.Lookup.{part-length, guess-row, confirmed, confirmed-at, lookup-is, lookup-long}
 use Rattle.lexer.proofs.known.known_kind.Statement.{statement}
 use Rattle.lexer.proofs.known.known_kind.Tie as tie

@@ -1,6 +1,5 @@
 -- `lexer::known::lower` meets its contract. Assumes nothing.
 use native.Mathlib.Omega.{arith}
-use mathlib.Core.Path.{_≡_}
 use Rattle.chars.proofs.Halving.{inside, out}
 use Rattle.lexer.proofs.known.lower.Statement.{statement}
 use Rattle.lexer.proofs.known.lower.Tie as tie

@@ -1,13 +1,13 @@
 -- `lexer::known::pack` meets its contract. The invariant: the letters left, packed behind v, give the same number. Assumes nothing.
-use mathlib.Core.Path.{_≡_, refl, sym, ap, _∙_}
+use mathlib.Core.Path.{_≡_, refl, sym, _∙_}
 use mathlib.Core.List.{map}
 use Prim.Native.Nat.{ℕ, _+_, _-_, _*_, _%_, _^_, _≤_, _<_}
 use native.Mathlib.Omega.{arith}
 use borrow.Author.Needs.{needs}
-use lib.ListN.{length, getD, take, drop}
+use lib.ListN.{take, drop}
 use denote.Ref.{now}
 use Rattle.lexer.specs.Known.{lower, packed}
-use Rattle.lexer.proofs.Lookup.{part, pack-step, pack-done}
+use Rattle.lexer.proofs.Lookup.{pack-step, pack-done}
 use Rattle.lexer.proofs.known.pack.Statement.{statement}
 use Rattle.lexer.proofs.known.pack.Tie as tie
 

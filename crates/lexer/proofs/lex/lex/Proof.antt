@@ -1,8 +1,7 @@
 -- `lexer::lex::lex` meets its contract: the refusals in their order, and then the reading. Assumes nothing.
-use mathlib.Core.Path.{_≡_, refl, sym, ap, _∙_}
+use mathlib.Core.Path.{refl, sym, _∙_}
 use borrow.Author.Needs.{needs}
 use denote.Ref.{now}
-use lib.ListN.{length}
 use Rattle.chars.specs.Utf8.{firstBad}
 use Rattle.lexer.proofs.Answering.{lex-long, lex-bad, lex-ok, verdict-valid, verdict-bad, whole-text}
 use Rattle.lexer.proofs.lex.lex.Statement.{statement}

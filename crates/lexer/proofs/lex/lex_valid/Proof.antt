@@ -1,19 +1,19 @@
 -- `lexer::lex::lex_valid` meets its contract: the tokens fit because they were counted, or because there are as many slots as bytes. Assumes nothing.
-use mathlib.Core.Path.{_≡_, refl, sym, ap, _∙_}
+use mathlib.Core.Path.{_≡_, ap, _∙_}
 use mathlib.Core.Logic.{⊎-elim}
 use Prim.Native.Nat.{ℕ, _≤_}
 use borrow.Author.Needs.{needs}
 use native.Mathlib.Omega.{arith}
-use lib.ListN.{length, take}
+use lib.ListN.{length}
 use lib.Seq.{take-all}
 use denote.Ref.{now}
-use Rattle.tokens.specs.Slots.{room, laid}
+use Rattle.tokens.specs.Slots.{laid}
 use Rattle.tokens.proofs.Storing.{laid-none, length-laid}
 use Rattle.tokens.specs.declared.slot.Slot.{Slot}
 use mathlib.Core.List.{List}
 use Rattle.lexer.specs.declared.lex.Walked.{Walked}
 use Rattle.lexer.specs.Ways.{pinned}
-use Rattle.lexer.specs.Read.{reading, tokens, stopAt}
+use Rattle.lexer.specs.Read.{reading, tokens}
 use Rattle.lexer.proofs.Turns.{tokens-few}
 use Rattle.lexer.proofs.Answering.{valid-refused, valid-done}
 use Rattle.lexer.proofs.lex.lex_valid.Statement.{statement}

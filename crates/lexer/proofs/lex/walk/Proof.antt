@@ -1,13 +1,12 @@
 -- `lexer::lex::walk` meets its contract. The invariant: `Walking`, of which the n tokens read so far are the first of all, and those below `upto` are laid. Assumes nothing.
-use mathlib.Core.Path.{_≡_, refl, sym, ap, _∙_}
-use Prim.Native.Nat.{ℕ, _+_, _-_, _≤_, _<_}
+use mathlib.Core.Path.{sym, _∙_}
+use Prim.Native.Nat.{_-_}
 use borrow.Author.Needs.{needs}
 use native.Mathlib.Omega.{arith}
-use lib.ListN.{length, take}
+use lib.ListN.{length}
 use denote.Ref.{now}
-use Rattle.tokens.specs.Slots.{laid}
 use Rattle.lexer.specs.Ways.{pinned}
-use Rattle.lexer.specs.Read.{Readable, reading, tokens, stopAt, kept}
+use Rattle.lexer.specs.Read.{Readable}
 use Rattle.lexer.proofs.Turns.{Turn, turn, turn-stop, go-end, Walking, walking-start, walking-more, kept-length, all-read, stop-here, all-laid}
 use Rattle.lexer.proofs.lex.walk.Statement.{statement}
 use Rattle.lexer.proofs.lex.walk.Tie as tie

@@ -1,6 +1,4 @@
 -- `lexer::read::number_from` meets its contract. Assumes nothing.
-use mathlib.Core.Path.{_≡_, refl, sym, ap, _∙_}
-use borrow.Author.Needs.{needs}
 use native.Mathlib.Omega.{arith}
 use denote.Ref.{now}
 use Rattle.lexer.proofs.Steps.{number-dash, number-same}

@@ -1,6 +1,4 @@
 -- `lexer::read::read_block` meets its contract. Assumes nothing.
-use mathlib.Core.Path.{_≡_, refl, sym, ap, _∙_}
-use borrow.Author.Needs.{needs}
 use native.Mathlib.Omega.{arith}
 use denote.Ref.{now}
 use Rattle.lexer.specs.Scans.{blockLen}

@@ -1,6 +1,4 @@
 -- `lexer::read::read_quoted` meets its contract: the text ends at a quote that closes, or at the end. Assumes nothing.
-use mathlib.Core.Path.{_≡_, refl, sym, ap, _∙_}
-use borrow.Author.Needs.{needs}
 use native.Mathlib.Omega.{arith}
 use denote.Ref.{now}
 use lib.ListN.{getD}

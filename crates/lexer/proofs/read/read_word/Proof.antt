@@ -1,7 +1,5 @@
 -- `lexer::read::read_word` meets its contract. Assumes nothing.
-use mathlib.Core.Path.{_≡_, refl, sym, ap, _∙_}
 use borrow.Author.Needs.{needs}
-use native.Mathlib.Omega.{arith}
 use denote.Ref.{now}
 use Rattle.lexer.specs.declared.goes.Stop.the-variants.{Word}
 use Rattle.lexer.specs.Ways.{pinned}

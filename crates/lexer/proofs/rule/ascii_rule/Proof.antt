@@ -1,8 +1,7 @@
 -- `lexer::rule::ascii_rule` meets its contract, arm by arm. Assumes nothing.
-use mathlib.Core.Path.{_≡_, refl, sym, ap, _∙_}
+use mathlib.Core.Path.{_≡_, _∙_}
 use borrow.Author.Needs.{needs}
 use native.Mathlib.Omega.{arith}
-use borrow.Author.Tests.{eq-eqb, ne-eqb}
 use Prim.Native.Nat.{ℕ, suc, _≤_, _<_}
 use lib.ListN.{drop}
 use denote.Ref.{now}

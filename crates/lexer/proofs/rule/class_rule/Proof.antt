@@ -1,5 +1,5 @@
 -- `lexer::rule::class_rule` meets its contract. Assumes nothing.
-use mathlib.Core.Path.{_≡_, refl, sym, ap, _∙_}
+use mathlib.Core.Path.{sym, _∙_}
 use borrow.Author.Needs.{needs}
 use borrow.Author.Tests.{eq-eqb, ne-eqb}
 use Rattle.lexer.proofs.rule.class_rule.Statement.{statement}

@@ -1,5 +1,5 @@
 -- `lexer::rule::numeric_stands` meets its contract, by the step at the offset. Assumes nothing.
-use mathlib.Core.Path.{_≡_, refl, sym, ap, _∙_}
+use mathlib.Core.Path.{sym, _∙_}
 use borrow.Author.Needs.{needs}
 use mathlib.Core.Logic.{inl, inr}
 use denote.Ref.{now}

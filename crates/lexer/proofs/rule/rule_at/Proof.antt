@@ -1,11 +1,10 @@
 -- `lexer::rule::rule_at` meets its contract: an ASCII character is its byte, and past 0x80 only the classes matter. Assumes nothing.
-use mathlib.Core.Path.{_≡_, refl, sym, ap, _∙_}
+use mathlib.Core.Path.{_≡_, sym, _∙_}
 use borrow.Author.Needs.{needs}
 use native.Mathlib.Omega.{arith}
 use denote.Ref.{now}
 use Prim.Native.Nat.{_≤_}
 use lib.ListN.{getD, drop}
-use mathlib.Core.List.{_∷_}
 use Rattle.chars.specs.Utf8.{chars}
 use Rattle.lexer.specs.declared.rule.Rule.the-variants.{Unknown}
 use Rattle.lexer.specs.Ways.{pinned}

@@ -1,5 +1,5 @@
 -- `lexer::rule::slash_rule` meets its contract. Assumes nothing.
-use mathlib.Core.Path.{_≡_, refl, sym, ap, _∙_}
+use mathlib.Core.Path.{sym, _∙_}
 use borrow.Author.Needs.{needs}
 use Rattle.lexer.proofs.rule.slash_rule.Statement.{statement}
 use Rattle.lexer.proofs.rule.slash_rule.Tie as tie

@@ -1,6 +1,5 @@
 -- `lexer::rule::stands` meets its contract: no byte of a longer character is an ASCII character. Assumes nothing.
-use mathlib.Core.Path.{_≡_, refl, sym, ap, _∙_}
-use borrow.Author.Needs.{needs}
+use mathlib.Core.Path.{sym}
 use native.Mathlib.Omega.{arith}
 use denote.Ref.{now}
 use Rattle.lexer.proofs.Choice.{stands-is, stands-end}

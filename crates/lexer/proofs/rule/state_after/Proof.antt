@@ -1,6 +1,5 @@
 -- `lexer::rule::state_after` meets its contract. Assumes nothing.
-use mathlib.Core.Path.{_≡_, refl, sym, ap, _∙_}
-use borrow.Author.Tests.{eq-eqb, ne-eqb}
+use borrow.Author.Tests.{ne-eqb}
 use Rattle.tokens.specs.Kinds as kind
 use Rattle.lexer.proofs.rule.state_after.Statement.{statement}
 use Rattle.lexer.proofs.rule.state_after.Tie as tie
