@@ -40,7 +40,7 @@ fn shape(statement: &[u8]) -> Result<(Vec<u8>, String), String> {
         remarks += &format!("   [stopped short at byte {}]", read.stop);
     }
     if sanitized.exposed != 0 {
-        remarks += &format!("   [{} values left]", sanitized.exposed);
+        remarks += &format!("   [values left: {}]", sanitized.exposed);
     }
     Ok((out, remarks))
 }

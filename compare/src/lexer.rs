@@ -52,7 +52,7 @@ fn stop_of(text: &str, tokens: &[Token]) -> usize {
                 assert_eq!(first as usize, at);
                 second as usize
             }
-            tokens::UNKNOWN => at + char::from_u32(first).unwrap().len_utf8(),
+            tokens::kind::UNKNOWN => at + char::from_u32(first).unwrap().len_utf8(),
             kind => at + plain_width(kind),
         };
     }
