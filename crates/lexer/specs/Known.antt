@@ -83,6 +83,7 @@ padded zero text = []
 padded (suc n) [] = code " " ∷ padded n []
 padded (suc n) (x ∷ xs) = x ∷ padded n xs
 
+-- how many letters a row has room for
 abbrev pub rowWidth : ℕ
 rowWidth = 9
 
@@ -91,6 +92,7 @@ abbrev pub laidOut : List Row → List ℕ
 laidOut [] = []
 laidOut (r ∷ rs) = padded rowWidth (r .text) ++ laidOut rs
 
+-- the words, the runs and the numbers
 unfoldable pub letters : List ℕ
 letters = laidOut (words ++ runs ++ zeros)
 
@@ -111,5 +113,6 @@ firstRow Words = 0
 firstRow Runs = 37
 firstRow Zeros = 54
 
+-- the row of a table whose text packs to v
 unfoldable pub guessOf : Sort → ℕ → Guess
 guessOf sort v = guessIn (firstRow sort) (rowsOf sort) v

@@ -39,6 +39,7 @@ lexAnswer w text slots = cond (ltb limit (length text)) (textTooLong (length tex
 unfoldable pub validBuffer : Ways → List ℕ → List ℕ → List ℕ
 validBuffer w text ws = let ts = tokens (reading w text) in cond (ltb (room ws) (length ts)) ws (laid ts ws)
 
+-- and so do refusals 1 and 2
 unfoldable pub lexBuffer : Ways → List ℕ → List ℕ → List ℕ
 lexBuffer w text ws = cond (ltb limit (length text)) ws (onBad (firstBad text) (λ _. ws) (validBuffer w text ws))
 

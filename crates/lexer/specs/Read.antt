@@ -36,10 +36,12 @@ pub data Reading : Type 0 where
   stopped : ℕ → Reading
   next : Slot → Reading → Reading
 
+-- its tokens
 abbrev pub tokens : Reading → List Slot
 tokens (stopped at) = []
 tokens (next t r) = t ∷ tokens r
 
+-- its stop
 abbrev pub stopAt : Reading → ℕ
 stopAt (stopped at) = at
 stopAt (next t r) = stopAt r

@@ -52,6 +52,7 @@ starKind Default = kind.Multiply
 starKind PastSelect = kind.Wildcard
 starKind PastFrom = kind.Multiply
 
+-- select and from change what `*` is
 abbrev pub stateAfter : ℕ → State → State
 stateAfter k state = cond (eqb k kind.Select) PastSelect (cond (eqb k kind.From) PastFrom state)
 
@@ -108,26 +109,31 @@ operators c other =
     (cond (eqb c (code "#")) Run
     (cond (eqb c (code "_")) Charset other)))))))
 
--- rules 9, 10 and 11
+-- rules 9, 10 and 11: an alphabetic starts a word
 abbrev pub startsWord : Ways → ℕ → Bool
 startsWord w c = w .alphabetic c
 
+-- a numeric or `-` starts a number
 abbrev pub startsNumber : Ways → ℕ → Bool
 startsNumber w c = eqb c (code "-") || w .numeric c
 
+-- a word, else a number, else Unknown
 abbrev pub others : Ways → ℕ → Rule
 others w c = cond (startsWord w c) Word (cond (startsNumber w c) Number Unknown)
 
+-- the first of the eleven rules that fits
 unfoldable pub ruleOf : Ways → State → ℕ → List ℕ → Rule
 ruleOf w state c cs = quotes c (comments c cs (singles c (arithmetic w state c cs (operators c (others w c)))))
 
--- the same at `#`, `-` and `/`, where two rules or three may fit
+-- the same at `#`, `-` and `/`, where two rules or three may fit. `#`: rules 7 and 2
 abbrev pub atHash : List ℕ → Rule
 atHash cs = cond (headIs (λ d. eqb d (code ">")) cs) Run Line
 
+-- `-`: rules 2, 10 and 6
 abbrev pub atDash : Ways → List ℕ → Rule
 atDash w cs = cond (headIs (λ d. eqb d (code "-")) cs) Line (cond (headIs (w .numeric) cs) Number (Single kind.Minus))
 
+-- `/`: rules 3 and 6
 abbrev pub atSlash : List ℕ → Rule
 atSlash cs = cond (headIs (λ d. eqb d (code "*")) cs) Block (Single kind.Divide)
 
@@ -172,6 +178,7 @@ number w c cs = let n = span (goesOn w stop.Number) cs in known (knownKind Zeros
 abbrev pub unknown : ℕ → Out
 unknown c = took kind.Unknown (scalar c) 0
 
+-- what the rule reads
 unfoldable pub byRule : Rule → Ways → Bool → ℕ → List ℕ → Out
 byRule (Quoted k) w star c cs = quoted k c cs
 byRule Line w star c cs = line cs

@@ -34,6 +34,7 @@ reach f text at = let cs = chars (drop at text) in at + bytes (f cs) cs
 abbrev pub closes : ℕ → Bool → ℕ → Bool
 closes quote odd c = not odd && eqb c quote
 
+-- and whether it is odd after the character c
 abbrev pub escapes : Bool → ℕ → Bool
 escapes odd c = not odd && eqb c (code "\\")
 
@@ -50,9 +51,11 @@ pub record Before : Type 0 where
   pub star : Bool
   pub closed : Bool
 
+-- a comment has ended where they are `*` and `/`
 abbrev pub ended : Before → ℕ → Bool
 ended before c = before .closed
 
+-- what they say after the character c
 abbrev pub then : Before → ℕ → Before
 then before c = record { star = eqb c (code "*"); closed = before .star && eqb c (code "/") }
 
