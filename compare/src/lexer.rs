@@ -7,7 +7,7 @@
 use crate::ours::{self, Answer};
 use crate::random::Random;
 use crate::report::{hex, Report};
-use crate::tokens::{self, WORDS};
+use crate::tokens::{self, kind, WORDS};
 use sql_lexer::Token;
 
 const LIMIT: usize = 1_048_576;
@@ -19,32 +19,32 @@ const EVERY: [char; 42] = [
     '|', '_', 'a', 'X', 'b', 'n', '0', '7', '\t', 'é', '²', 'Ⅷ', '€', '😀',
 ];
 
-// The bytes of a token that carries nothing, by its kind.
-fn plain_width(kind: u32) -> usize {
-    match kind {
-        1..=12 | 17..=21 | 32 | 41 | 42 | 45 | 46 | 71 | 73 | 75 => 1,
-        22 | 33 | 35..=40 | 43 | 44 | 47 | 53 | 61 | 72 | 74 => 2,
-        23 | 34 | 48 | 52 | 55 => 3,
-        14 | 15 | 24 | 27 | 30 | 31 | 50 | 57 | 60 | 68 | 69 => 4,
-        16 | 25 | 26 | 28 | 51 | 59 | 62 | 65 => 5,
-        29 | 49 | 54 | 56 | 58 | 63 | 67 => 6,
-        64 => 7,
-        70 => 9,
-        _ => panic!("the reader makes no kind {kind}"),
+// The bytes of each kind that carries nothing: those of the text that the Rust writes for it, which has the length of what it reads.
+struct Widths([usize; kind::UNKNOWN as usize]);
+
+impl Widths {
+    fn new() -> Widths {
+        let mut widths = [0; kind::UNKNOWN as usize];
+        for kind in (0..kind::UNKNOWN).filter(|kind| !tokens::carries_offsets(*kind)) {
+            let mut sql = sql_lexer::lex(String::new());
+            sql.tokens = vec![tokens::token(kind, 0, 0)];
+            widths[kind as usize] = sql_lexer::write(sql).len();
+        }
+        Widths(widths)
     }
 }
 
 // Where the Rust's reading stopped.
-fn stop_of(text: &str, tokens: &[Token]) -> usize {
+fn stop_of(widths: &Widths, text: &str, tokens: &[Token]) -> usize {
     let mut at = 0;
     for token in tokens {
         let [kind, first, second] = tokens::words(token);
         at = match kind {
-            76 => {
+            kind::CHARSET => {
                 assert_eq!(first as usize, at + 1);
                 second as usize
             }
-            77..=79 => {
+            kind::BACKTICKED..=kind::SINGLE_QUOTED => {
                 assert_eq!(first as usize, at + 1);
                 second as usize + usize::from((second as usize) < text.len())
             }
@@ -52,8 +52,8 @@ fn stop_of(text: &str, tokens: &[Token]) -> usize {
                 assert_eq!(first as usize, at);
                 second as usize
             }
-            tokens::kind::UNKNOWN => at + char::from_u32(first).unwrap().len_utf8(),
-            kind => at + plain_width(kind),
+            kind::UNKNOWN => at + char::from_u32(first).unwrap().len_utf8(),
+            kind => at + widths.0[kind as usize],
         };
     }
     assert!(at == text.len() || b"=!><&|#".contains(&text.as_bytes()[at]), "no run at {at} of {text:?}");
@@ -65,7 +65,7 @@ fn refused(refusal: u64, detail: usize) -> Answer {
 }
 
 // What document 01 has us answer, and what the slots hold then, by the Rust's own reader.
-fn expected(text: &[u8], words: usize) -> (Answer, Vec<u32>) {
+fn expected(widths: &Widths, text: &[u8], words: usize) -> (Answer, Vec<u32>) {
     let mut slots = vec![FILLER; words];
     if text.len() > LIMIT {
         return (refused(1, text.len()), slots);
@@ -80,10 +80,11 @@ fn expected(text: &[u8], words: usize) -> (Answer, Vec<u32>) {
     }
     let laid = tokens::slots(&read);
     slots[..laid.len()].copy_from_slice(&laid);
-    (Answer { tokens: read.len() as u64, stop: stop_of(text, &read) as u64, ..Answer::default() }, slots)
+    (Answer { tokens: read.len() as u64, stop: stop_of(widths, text, &read) as u64, ..Answer::default() }, slots)
 }
 
 struct Run {
+    widths: Widths,
     report: Report,
     seen: [u64; 4],
     stopped: u64,
@@ -95,7 +96,7 @@ impl Run {
         self.slots.clear();
         self.slots.resize(words, FILLER);
         let answer = ours::lex(text, &mut self.slots);
-        let (rust, slots) = expected(text, words);
+        let (rust, slots) = expected(&self.widths, text, words);
         self.seen[rust.refusal as usize] += 1;
         self.stopped += u64::from(rust.refusal == 0 && (rust.stop as usize) < text.len());
         let ours = (answer, &self.slots);
@@ -198,7 +199,7 @@ fn statement(random: &mut Random) -> Vec<u8> {
 }
 
 pub fn run(full: bool, statements: u64, seed: u64) -> u64 {
-    let mut run = Run { report: Report::new("lexer"), seen: [0; 4], stopped: 0, slots: Vec::new() };
+    let mut run = Run { widths: Widths::new(), report: Report::new("lexer"), seen: [0; 4], stopped: 0, slots: Vec::new() };
     let (every, comments, operators, quotes, step) = if full { (4, 6, 6, 8, 1) } else { (3, 5, 5, 6, 17) };
     run.every_text(&EVERY, every);
     run.every_text(&['/', '*', '-', '#', '\n', '\r', '\'', 'a', '€'], comments);
