@@ -1,30 +1,27 @@
 -- The answer of `lex` and what it leaves in the words, case by case.
 -- valid-refused, valid-done   of a valid text: too few slots; all tokens laid
 -- lex-long, lex-bad, lex-ok   the text is too long; it is not valid; it is valid
--- verdict-valid, -bad         what a verdict says of the first bad byte
 -- whole-text                  a valid text is whole from its start on
 -- Assumes nothing.
-use mathlib.Core.Path.{_≡_, refl, sym, ap}
+use mathlib.Core.Path.{_≡_}
 use mathlib.Core.List.{List}
-use mathlib.Core.Option.{Option, none, some}
+use mathlib.Core.Option.{none, some}
 use Prim.Native.Nat.{ℕ, _≤_, _<_}
 use native.Mathlib.Omega.{arith}
 use lib.ListN.{length}
 use borrow.Author.Tests.{lt-ltb, le-ltb}
 use Rattle.chars.specs.Utf8.{firstBad}
-use Rattle.chars.specs.Steps.{verdictOf}
 use Rattle.chars.specs.declared.offset.Offset.{Offset}
-use Rattle.chars.specs.declared.utf8.Verdict.the-variants as verdict
 use Rattle.chars.proofs.Whole.{whole}
 use Rattle.tokens.specs.Slots.{room, laid}
 use Rattle.tokens.specs.Answers.{limit}
+use Rattle.tokens.proofs.Checking.{text-long, text-within}
 use Rattle.tokens.specs.declared.refusal.Refusal.the-variants.{TextTooLong, NotUtf8, NoRoomTokens}
 use Rattle.lexer.specs.declared.lex.Lexed.{Lexed}
 use Rattle.lexer.specs.declared.lex.Lexed.the-variants.{Done, Refused}
 use Rattle.lexer.specs.Ways.{pinned}
 use Rattle.lexer.specs.Read.{reading, tokens, stopAt, Whole}
 use Rattle.lexer.specs.Lexes.{validAnswer, validBuffer, lexAnswer, lexBuffer, Lexes, Valid}
-use Rattle.lexer.proofs.Characters.{clash}
 
 module _ (t ws left : List ℕ) where
   pub valid-refused : (n : ℕ) → n ≡ length (tokens (reading pinned t)) → room ws < n → left ≡ ws → Valid t ws (Refused (NoRoomTokens n)) left
@@ -41,23 +38,15 @@ module _ (t ws left : List ℕ) where
 
   pub lex-long : limit < length t → left ≡ ws → Lexes t ws (Refused (TextTooLong (length t))) left
   unfolding lexAnswer lexBuffer
-  lex-long h l = record { answer = rw (lt-ltb limit (length t) h); buffer = rw (lt-ltb limit (length t) h) l }
+  lex-long h l = record { answer = rw (text-long t h); buffer = rw (text-long t h) l }
 
   pub lex-bad : length t ≤ limit → (at : Offset) → firstBad t ≡ some (at .0) → left ≡ ws → Lexes t ws (Refused (NotUtf8 at)) left
   unfolding lexAnswer lexBuffer
-  lex-bad h at e l = record { answer = rw (le-ltb limit (length t) h, e); buffer = rw (le-ltb limit (length t) h, e) l }
+  lex-bad h at e l = record { answer = rw (text-within t h, e); buffer = rw (text-within t h, e) l }
 
   pub lex-ok : length t ≤ limit → firstBad t ≡ none → (r : Lexed) → Valid t ws r left → Lexes t ws r left
-  unfolding lexAnswer lexBuffer
-  lex-ok h e r v = record { answer = rw (le-ltb limit (length t) h, e) (v .answer); buffer = rw (le-ltb limit (length t) h, e) (v .buffer) }
-
-pub verdict-valid : (o : Option ℕ) → verdictOf o ≡ verdict.Valid → o ≡ none
-verdict-valid none e = refl
-verdict-valid (some at) e = clash (cc)
-
-pub verdict-bad : (o : Option ℕ) (at : Offset) → verdictOf o ≡ verdict.BadAt at → o ≡ some (at .0)
-verdict-bad none at e = clash (cc)
-verdict-bad (some i) at e = let z : at ≡ record { 0 = i } = cc in ap (λ (n : ℕ). some n) (sym (ap (λ (o : Offset). o .0) z))
+  unfolding lexAnswer lexBuffer validBuffer
+  lex-ok h e r v = record { answer = rw (text-within t h, e) (v .answer); buffer = rw (text-within t h, e) (v .buffer) }
 
 pub whole-text : (t : List ℕ) → length t ≤ limit → firstBad t ≡ none → Whole t 0
 whole-text t h e = record { inside = omega arith; small = h; whole = whole t e }

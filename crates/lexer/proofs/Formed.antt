@@ -1,7 +1,6 @@
 -- Every token that is read is well formed, for any ways to read.
 -- plain-not, -known, unknown-not, carries-known   a kind that carries nothing, and Unknown, carry no offsets
 -- fits, Fits, one-fits   what a rule reads carries what its kind may carry
--- chars-scalars       the characters of a text are scalar values
 -- all-formed          each token of a reading is well formed, so the first malformed place is the length
 -- Assumes nothing.
 use mathlib.Core.Path.{_≡_, refl}
@@ -14,6 +13,7 @@ use lib.ListN.{length, drop}
 use borrow.Author.Tests.{eqb-true, ne-eqb, ltb-true, not-true, lt-ltb}
 use Rattle.chars.specs.Utf8.{chars, width, isScalar, allScalars}
 use Rattle.chars.proofs.Bytes.{and-l, and-r}
+use Rattle.chars.proofs.Rfc.{chars-scalars}
 use Rattle.tokens.specs.Kinds as kind
 use Rattle.tokens.specs.Texts.{Row}
 use Rattle.tokens.specs.Formed.{carriesOffsets, wellFormed, malformed, firstPlace}
@@ -28,8 +28,6 @@ use Rattle.lexer.specs.Ways.{Ways}
 use Rattle.lexer.specs.Known.{equal, find, words, runs, zeros, rowsOf, knownKind}
 use Rattle.lexer.specs.Rules.{Carried, nothing, slice, scalar, Out, halt, took, known, headIs, starKind, stateAfter, ruleOf, quoted, line, block, numbered, run, charset, word, number, byRule, readOne}
 use Rattle.lexer.specs.Read.{slotOf, Reading, tokens, onward, go, reading}
-use Rattle.lexer.proofs.Characters.{View, here, past, view}
-use Rattle.lexer.proofs.Reaching.{chars-end}
 
 -- a kind that carries nothing
 unfoldable pub plain : ℕ → Bool
@@ -179,14 +177,6 @@ unfolding readOne
 one-fits w star st c cs s = rule-fits (ruleOf w st c cs) (kind-fits w st c cs) w star c cs s
 
 -- ---- a whole reading
-pub chars-scalars : (n : ℕ) (t : List ℕ) (at : ℕ) → length t - at ≤ n → allScalars (chars (drop at t)) ≡ true
-chars-scalars zero t at h = rw (chars-end t at (omega arith)) (unfold allScalars in refl)
-chars-scalars (suc n) t at h = from (view t at) (chars-scalars n t)
-  where
-    from : View t at → ((b : ℕ) → length t - b ≤ n → allScalars (chars (drop b t)) ≡ true) → allScalars (chars (drop at t)) ≡ true
-    from (past e) ih = rw e (unfold allScalars in refl)
-    from (here s nx p e) ih = rw (p .reads) (unfold allScalars in (rw (p .scalar) (ih nx (omega (arith, p .on, p .inside)))))
-
 malformed-none : (t : Slot) (ts : List Slot) → wellFormed t ≡ true → firstPlace malformed ts ≡ length ts → firstPlace malformed (t ∷ ts) ≡ suc (length ts)
 unfolding firstPlace
 malformed-none t ts e f = rw (e, f)
@@ -206,4 +196,4 @@ go-formed w (c ∷ cs) (suc k) at b st e = go-formed w cs k (at + width c) (eqb 
 
 pub all-formed : (w : Ways) (t : List ℕ) → firstPlace malformed (tokens (reading w t)) ≡ length (tokens (reading w t))
 unfolding reading
-all-formed w t = go-formed w (chars t) 0 0 false Default (chars-scalars (length t) t 0 (omega arith))
+all-formed w t = go-formed w (chars t) 0 0 false Default (chars-scalars t)

@@ -36,7 +36,8 @@ use Rattle.lexer.specs.Known.{knownKind}
 use Rattle.lexer.specs.Rules.{Carried, nothing, slice, scalar, Out, halt, took, sliced, known, stateAfter, ruleOf, quoted, line, block, numbered, run, charset, word, number, byRule, readOne}
 use Rattle.lexer.specs.Read.{slotOf, Reading, tokens, onward, go, reading}
 use Rattle.lexer.proofs.Characters.{clash, encode-length}
-use Rattle.lexer.proofs.Formed.{fits, Fits, one-fits, chars-scalars, plain-not, plain-known, unknown-not, carries-known}
+use Rattle.chars.proofs.Rfc.{chars-scalars}
+use Rattle.lexer.proofs.Formed.{fits, Fits, one-fits, plain-not, plain-known, unknown-not, carries-known}
 
 pub record Piece : Type 0 where
   pub kind : ℕ
@@ -216,4 +217,4 @@ go-spells w t (c ∷ cs) (suc skip) at b st v e = go-spells w t cs skip (at + wi
 -- the tokens of a valid text spell the pieces of its characters
 pub reading-spells : (w : Ways) (t : List ℕ) → firstBad t ≡ none → Each t (tokens (reading w t)) (pieces w 0 false Default (chars t))
 unfolding reading
-reading-spells w t e = go-spells w t (chars t) 0 0 false Default (record { inside = omega arith; are = sym (whole t e) }) (chars-scalars (length t) t 0 (omega arith))
+reading-spells w t e = go-spells w t (chars t) 0 0 false Default (record { inside = omega arith; are = sym (whole t e) }) (chars-scalars t)

@@ -3,7 +3,8 @@ use mathlib.Core.Path.{refl, sym, _∙_}
 use borrow.Author.Needs.{needs}
 use denote.Ref.{now}
 use Rattle.chars.specs.Utf8.{firstBad}
-use Rattle.lexer.proofs.Answering.{lex-long, lex-bad, lex-ok, verdict-valid, verdict-bad, whole-text}
+use Rattle.chars.proofs.Verdicts.{verdict-valid, verdict-bad}
+use Rattle.lexer.proofs.Answering.{lex-long, lex-bad, lex-ok, whole-text}
 use Rattle.lexer.proofs.lex.lex.Statement.{statement}
 use Rattle.lexer.proofs.lex.lex.Tie as tie
 
