@@ -1,0 +1,7 @@
+mod Checks
+pub mod Demand1
+pub mod Once
+pub mod Demand2
+pub mod Demand3
+pub mod Rows
+pub mod ShutOut
