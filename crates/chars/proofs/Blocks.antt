@@ -12,7 +12,7 @@ use Prim.Native.Nat.{ℕ, _+_, _-_, _≤_, _<_, zero-le}
 use native.Mathlib.Omega.{arith}
 use lib.Dec.{eqb, leb, ltb}
 use lib.ListN.{length, getD, drop}
-use borrow.Author.Tests.{le-leb, lt-leb, lt-ltb, le-ltb, leb-true, leb-false, ltb-true, ltb-false, eqb-true, eqb-false, ne-eqb}
+use borrow.Author.Tests.{le-leb, lt-leb, lt-ltb, le-ltb, leb-true, ltb-true, ltb-false, eqb-true, eqb-false, ne-eqb}
 use Rattle.chars.specs.Utf8.{front, follows, firstBad}
 use Rattle.chars.specs.Steps.{sizeOf, fitsThree, fitsFour, barredThree, barredFour, inPlace, Settled}
 use Rattle.chars.proofs.Bytes.{and-l, and-r, follows-range}
