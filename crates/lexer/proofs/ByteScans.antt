@@ -3,14 +3,15 @@
 -- scan-bytes           the scan of the bytes is the scan of the characters, counted in bytes
 -- byte-reach           the same, as the offset that is reached
 -- byte-on, -off, -end  one turn of a loop over bytes
+-- byte-first           up to the first of two bytes, where all others pass and change nothing
 -- quote-passes, block-passes   the scans of rules 1 and 3
--- over-bytes, span-byte-on, -off, -end   the same for a scan by a test
+-- over-bytes, span-byte-on, -off, -end, -first   the same for a scan by a test
 -- line-alike, run-alike   rules 2 and 7
 -- Assumes nothing.
 use mathlib.Core.Path.{_≡_, refl, sym, ap, _∙_}
 use mathlib.Core.Bool.{Bool, true, false, cond, not, _&&_, and-false}
 use mathlib.Core.List.{List, [], _∷_, _++_}
-use Prim.Native.Nat.{ℕ, suc, _+_, _≤_, _<_}
+use Prim.Native.Nat.{ℕ, zero, suc, _+_, _-_, _≤_, _<_}
 use native.Mathlib.Nat.{add-zero, zero-add, suc-add}
 use native.Mathlib.Numerals.{add-one}
 use native.Mathlib.Omega.{arith}
@@ -20,6 +21,7 @@ use lib.Seq.{drop-cons}
 use borrow.Author.Tests.{ne-eqb}
 use Rattle.chars.specs.Utf8.{chars, encode, encodeAll}
 use Rattle.lexer.specs.Scans.{scan, span, bytes, reach, closes, escapes, ended, then, inLine, inRun}
+use Rattle.lexer.specs.Next.{isOf, NoneOf, FirstOf}
 use Rattle.lexer.specs.Read.{Whole}
 use Rattle.lexer.proofs.Characters.{High, Encoded, one, many, encoded}
 
@@ -79,6 +81,19 @@ module _ {S : Type 0} (stops : S → ℕ → Bool) (after : S → ℕ → S) whe
     unfolding scan
     byte-end h = rw (drop-of-length-le t h, add-zero)
 
+  -- ---- many turns
+  module _ (t : List ℕ) (s : S) (a b : ℕ) (calm : (c : ℕ) → isOf a b c ≡ false → (stops s c ≡ false) × (after s c ≡ s)) where
+    over : (n at to : ℕ) → at + n ≡ to → to ≤ length t → NoneOf a b t at to → at + scan stops after s (drop at t) ≡ to + scan stops after s (drop to t)
+    over zero at to e h f = ap (λ (i : ℕ). i + scan stops after s (drop i t)) (sym (add-zero at) ∙ e)
+    over (suc n) at to e h f =
+        let k = calm (getD t at 0) (f at (omega arith) (omega arith)) in
+        byte-on t at s (omega arith) (k .0)
+        ∙ ap (λ (z : S). at + 1 + scan stops after z (drop (at + 1) t)) (k .1)
+        ∙ over n (at + 1) to (omega arith) h (λ i l m. f i (omega arith) m)
+
+    pub byte-first : (at to : ℕ) → FirstOf a b t at to → at + scan stops after s (drop at t) ≡ to + scan stops after s (drop to t)
+    byte-first at to f = over (to - at) at to (omega (arith, f .after)) (f .within) (f .none)
+
 -- ---- the scans
 high-not : (c k : ℕ) → 0x80 ≤ c → k < 0x80 → eqb c k ≡ false
 high-not c k h l = ne-eqb c k (λ e. omega arith)
@@ -125,6 +140,11 @@ module _ (p : ℕ → Bool) (t : List ℕ) (at : ℕ) where
   pub span-byte-end : length t ≤ at → at + span p (drop at t) ≡ at
   unfolding span
   span-byte-end h = byte-end {S = Unit {0}} (λ _ c. not (p c)) (λ seen _. seen) t at tt h
+
+module _ (p : ℕ → Bool) (t : List ℕ) (a b : ℕ) (calm : (c : ℕ) → isOf a b c ≡ false → not (p c) ≡ false) where
+  pub span-byte-first : (at to : ℕ) → FirstOf a b t at to → at + span p (drop at t) ≡ to + span p (drop to t)
+  unfolding span
+  span-byte-first = byte-first {S = Unit {0}} (λ _ c. not (p c)) (λ seen _. seen) t tt a b (λ c e. (calm c e, refl))
 
 pub line-alike : (c h : ℕ) → 0x80 ≤ c → 0x80 ≤ h → inLine h ≡ inLine c
 unfolding inLine

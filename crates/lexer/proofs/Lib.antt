@@ -1,5 +1,6 @@
 pub mod Characters
 pub mod Reaching
+pub mod Nones
 pub mod ByteScans
 pub mod Classes
 pub mod Lookup

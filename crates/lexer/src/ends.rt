@@ -5,8 +5,8 @@ use crate::goes::ascii_number;
 use crate::goes::ascii_numerics;
 use crate::goes::ascii_word;
 use crate::goes::goes_on;
-use crate::goes::in_line;
 use crate::goes::in_run;
+use crate::next::next_of;
 use chars::offset::Offset;
 use chars::utf8::Step;
 use chars::utf8::step_at;
@@ -123,17 +123,18 @@ pub fn quote_end(text: &[u8], from: Offset, quote: u8) -> Offset
 {
     let mut at = from.0;
     while at < text.len() {
-        let b = text[at];
-        if b == quote {
+        let next = next_of(text, Offset(at), quote, b'\\');
+        at = next.0;
+        if text.len() <= at {
             return Offset(at);
         }
-        if b == b'\\' {
-            at += 1;
-            if text.len() <= at {
-                return Offset(at);
-            }
+        if text[at] == quote {
+            return Offset(at);
         }
         at += 1;
+        if at < text.len() {
+            at += 1;
+        }
     }
     Offset(at)
 }
@@ -143,14 +144,7 @@ pub fn line_end(text: &[u8], from: Offset) -> Offset
     requires { ⌜ Whole (now text) (from .0) ⌝ }
     ensures { λ r. ⌜ r ≡ offset (reach (span inLine) (now (text .entry)) (from .0)) ⌝ }
 {
-    let mut at = from.0;
-    while at < text.len() {
-        if !in_line(text[at]) {
-            return Offset(at);
-        }
-        at += 1;
-    }
-    Offset(at)
+    next_of(text, from, b'\n', b'\r')
 }
 
 // Rule 3: after the first `*` and `/`, where the `*` may stand before the comment.
@@ -158,17 +152,22 @@ pub fn block_end(text: &[u8], from: Offset, starred: bool) -> Offset
     requires { ⌜ Whole (now text) (from .0) ⌝ }
     ensures { λ r. ⌜ r ≡ offset (reach (blockLen starred) (now (text .entry)) (from .0)) ⌝ }
 {
+    if starred {
+        return from;
+    }
     let mut at = from.0;
-    let mut star = false;
-    let mut closed = starred;
     while at < text.len() {
-        if closed {
+        let next = next_of(text, Offset(at), b'*', b'*');
+        at = next.0;
+        if text.len() <= at {
             return Offset(at);
         }
-        let b = text[at];
-        closed = star && b == b'/';
-        star = b == b'*';
         at += 1;
+        if at < text.len() {
+            if text[at] == b'/' {
+                return Offset(at + 1);
+            }
+        }
     }
     Offset(at)
 }

@@ -4,7 +4,7 @@ use chars::class::is_numeric;
 ghost use mathlib.Core.Path.{_≡_};
 ghost use Prim.Native.Nat.{_<_};
 ghost use Rattle.lexer.specs.Ways.{pinned};
-ghost use Rattle.lexer.specs.Scans.{inLine, inRun, goesOn};
+ghost use Rattle.lexer.specs.Scans.{inRun, goesOn};
 
 // The stop rules that ask for a class of characters.
 pub enum Stop {
@@ -12,17 +12,6 @@ pub enum Stop {
     Charset,
     Word,
     Number,
-}
-
-// Rule 2: a comment ends before \n or \r.
-pub fn in_line(b: u8) -> bool
-    ensures { λ r. ⌜ r ≡ inLine b ⌝ }
-{
-    match b {
-        b'\n' => false,
-        b'\r' => false,
-        _ => true,
-    }
 }
 
 // Rule 7: what a run takes.

@@ -4,5 +4,6 @@ mod goes;
 mod guess;
 mod known;
 pub mod lex;
+mod next;
 pub mod read;
 pub mod rule;

@@ -1,60 +1,40 @@
--- `lexer::ends::line_end` meets its contract. The invariant: the scan over bytes from here on ends at the same offset. Assumes nothing.
+-- `lexer::ends::line_end` meets its contract: the scan over bytes goes up to the first \n or \r. Assumes nothing.
 use mathlib.Core.Path.{_≡_, refl, sym, ap, _∙_}
-use mathlib.Core.Bool.{not}
-use Prim.Native.Nat.{_+_, _-_}
+use mathlib.Core.Bool.{true, false, not, Bool·not-not}
+use mathlib.Core.List.{List}
+use Prim.Native.Nat.{ℕ, _+_, _<_}
+use native.Mathlib.Decide.{decLt}
 use native.Mathlib.Omega.{arith}
 use borrow.Author.Needs.{needs}
 use lib.ListN.{length, drop}
 use denote.Ref.{now}
 use Rattle.chars.specs.Steps.{offset}
 use Rattle.lexer.specs.Scans.{span, inLine}
-use Rattle.lexer.proofs.ByteScans.{over-bytes, span-byte-on, span-byte-off, span-byte-end, line-alike}
+use Rattle.lexer.specs.Next.{isOf, FirstOf}
+use Rattle.lexer.proofs.ByteScans.{over-bytes, span-byte-first, span-byte-off, span-byte-end, line-alike}
 use Rattle.lexer.proofs.ends.line_end.Statement.{statement}
 use Rattle.lexer.proofs.ends.line_end.Tie as tie
 
-abbrev Inv-loop : tie.InvT-loop
-Inv-loop text at₀ at = at₀ + span inLine (drop at₀ text) ≡ at + span inLine (drop at text)
+next-of-requires : tie.Need-next-of-requires
+next-of-requires c κs = omega (arith, c .before .pre .inside)
 
-abbrev μ-loop : tie.MeasureT-loop
-μ-loop text at₀ at = length text - at
+-- the two are the bytes that end a line
+two : (c : ℕ) → not (inLine c) ≡ isOf 10 13 c
+unfolding inLine isOf
+two c = Bool·not-not (isOf 10 13 c)
 
-loop-holds : tie.Need-loop-holds Inv-loop μ-loop
-loop-holds c = refl
+stops : (t : List ℕ) (at to : ℕ) → FirstOf 10 13 t at to → at + span inLine (drop at t) ≡ to
+stops t at to f = span-byte-first inLine t 10 13 (λ c e. two c ∙ e) at to f ∙ go (decLt to (length t))
+  where
+    go : Dec (to < length t) → to + span inLine (drop to t) ≡ to
+    go (yes h) = span-byte-off inLine t to h (two _ ∙ f .found h)
+    go (no h) = span-byte-end inLine t to (omega arith)
 
-shared-slice-read-in-line : tie.Need-shared-slice-read-in-line Inv-loop μ-loop
-shared-slice-read-in-line c = omega arith
-
-in-line-requires : tie.Need-in-line-requires Inv-loop μ-loop
-in-line-requires c κs = search needs
-
-returns : tie.Need-returns Inv-loop μ-loop
+returns : tie.Need-returns
 returns c =
-    let l = c .before .before .before .before in
-    let s = l .before .before in
+    let s = c .before .before in
     let t = now (s .args .text) in
-    ap offset (sym (sym (over-bytes inLine line-alike t (s .args .from .0) (s .pre)) ∙ l .loop .inv
-    ∙ span-byte-off inLine t (l .loop .at) (c .before .before .before .loop-test .taken) (ap not (sym (c .before .in-line .ensures)) ∙ c .if1 .taken)))
-
-add-at : tie.Need-add-at Inv-loop μ-loop
-add-at c = omega arith
-
-loop-less : tie.Need-loop-less Inv-loop μ-loop
-loop-less c = omega arith
-
-loop-again : tie.Need-loop-again Inv-loop μ-loop
-loop-again c =
-    let l = c .before .before .before .before in
-    let t = now (l .before .before .args .text) in
-    l .loop .inv ∙ span-byte-on inLine t (l .loop .at) (c .before .before .before .loop-test .taken) (ap not (sym (c .before .in-line .ensures)) ∙ c .if1 .left)
-
-returns-2 : tie.Need-returns-2 Inv-loop μ-loop
-returns-2 c =
-    let l = c .before in
-    let s = l .before .before in
-    let t = now (s .args .text) in
-    ap offset (sym (sym (over-bytes inLine line-alike t (s .args .from .0) (s .pre)) ∙ l .loop .inv ∙ span-byte-end inLine t (l .loop .at) (c .loop-test .left)))
+    ap offset (sym (stops t (s .args .from .0) (c .next-of .result .0) (c .next-of .ensures)) ∙ over-bytes inLine line-alike t (s .args .from .0) (s .pre))
 
 pub line-end-spec : {M : Type 1} → statement M
-line-end-spec =
-    tie.close
-    (tie.spec Inv-loop μ-loop loop-holds shared-slice-read-in-line in-line-requires returns add-at loop-less loop-again returns-2)
+line-end-spec = tie.close (tie.spec next-of-requires returns)
