@@ -22,13 +22,10 @@ use Rattle.chars.specs.Steps.{offset, placed, stepAt}
 use Rattle.chars.specs.declared.offset.Offset.{Offset}
 use Rattle.chars.specs.declared.utf8.Step.{Step}
 use Rattle.chars.specs.declared.utf8.Step.the-variants.{Char, Bad, End}
+use Rattle.chars.proofs.Scalars.{clash}
 use Rattle.chars.proofs.Stepping.{Stepped, stepped, stepped-none, step-ascii}
 use Rattle.chars.proofs.Whole.{written}
 use Rattle.lexer.specs.Read.{starBefore, Whole, Readable}
-
--- two constructors are never equal
-pub clash : {A : Type 0} → _≡_ {A = ℕ} 0 1 → A
-clash z = absurd (omega arith)
 
 -- ---- how a character is written
 abbrev pub High : List ℕ → Type 0

@@ -3,7 +3,6 @@ pub mod Reaching
 pub mod Nones
 pub mod ByteScans
 pub mod Classes
-pub mod Lookup
 pub mod Choice
 pub mod Spelling
 pub mod Steps

@@ -1,7 +1,6 @@
 pub mod Ways
 pub mod Scans
 pub mod Next
-pub mod Known
 pub mod Rules
 pub mod Read
 pub mod Lexes

@@ -1,7 +1,7 @@
--- `lexer::guess::guess_row` meets its contract. Assumes nothing.
+-- `words::guess::guess_row` meets its contract. Assumes nothing.
 use borrow.Author.Needs.{needs}
-use Rattle.lexer.proofs.guess.guess_row.Statement.{statement}
-use Rattle.lexer.proofs.guess.guess_row.Tie as tie
+use Rattle.words.proofs.guess.guess_row.Statement.{statement}
+use Rattle.words.proofs.guess.guess_row.Tie as tie
 
 enum-told : tie.Need-enum-told
 enum-told c = search needs

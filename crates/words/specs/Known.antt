@@ -8,9 +8,9 @@ use lib.Dec.{eqb, leb}
 use lib.ListN.{length}
 use Rattle.tokens.specs.Kinds as kind
 use Rattle.tokens.specs.Texts.{Row, row, textOf}
-use Rattle.lexer.specs.declared.guess.Sort.{Sort}
-use Rattle.lexer.specs.declared.guess.Sort.the-variants.{Words, Runs, Zeros}
-use Rattle.lexer.specs.declared.guess.Guess.{Guess}
+use Rattle.words.specs.declared.guess.Sort.{Sort}
+use Rattle.words.specs.declared.guess.Sort.the-variants.{Words, Runs, Zeros}
+use Rattle.words.specs.declared.guess.Guess.{Guess}
 
 -- an ASCII capital in lower case
 abbrev pub lower : ℕ → ℕ

@@ -1,8 +1,8 @@
--- `lexer::guess::zero_guess` meets its contract: the numbers of its arms are the packed texts, by computation. Assumes nothing.
+-- `words::guess::zero_guess` meets its contract: the numbers of its arms are the packed texts, by computation. Assumes nothing.
 use borrow.Author.Tests.{ne-eqb}
-use Rattle.lexer.specs.Known.{guessOf, rowsOf, zeros}
-use Rattle.lexer.proofs.guess.zero_guess.Statement.{statement}
-use Rattle.lexer.proofs.guess.zero_guess.Tie as tie
+use Rattle.words.specs.Known.{guessOf, rowsOf, zeros}
+use Rattle.words.proofs.guess.zero_guess.Statement.{statement}
+use Rattle.words.proofs.guess.zero_guess.Tie as tie
 
 returns : tie.Need-returns
 unfolding guessOf rowsOf zeros

@@ -1,8 +1,8 @@
--- `lexer::known::lower` meets its contract. Assumes nothing.
+-- `words::known::lower` meets its contract. Assumes nothing.
 use native.Mathlib.Omega.{arith}
 use Rattle.chars.proofs.Halving.{inside, out}
-use Rattle.lexer.proofs.known.lower.Statement.{statement}
-use Rattle.lexer.proofs.known.lower.Tie as tie
+use Rattle.words.proofs.known.lower.Statement.{statement}
+use Rattle.words.proofs.known.lower.Tie as tie
 
 add-result : tie.Need-add-result
 add-result c = omega arith

@@ -1,7 +1,7 @@
 // Which row of the table of known texts (rules 7, 9 and 10) a text can only be, by its last eight letters.
 use tokens::kind;
 ghost use mathlib.Core.Path.{_≡_};
-ghost use Rattle.lexer.specs.Known.{guessOf};
+ghost use Rattle.words.specs.Known.{guessOf};
 
 // Which table: 37 words, seventeen runs, the beginnings of hexadecimal and binary numbers.
 pub enum Sort {

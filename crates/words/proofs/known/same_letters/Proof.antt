@@ -1,4 +1,4 @@
--- `lexer::known::same_letters` meets its contract. The invariant: the letters passed are the same. Assumes nothing.
+-- `words::known::same_letters` meets its contract. The invariant: the letters passed are the same. Assumes nothing.
 use mathlib.Core.Path.{_≡_, refl, sym, _∙_}
 use mathlib.Core.List.{map}
 use Prim.Native.Nat.{ℕ, _+_, _-_, _*_, _≤_, _<_}
@@ -10,10 +10,10 @@ use mathlib.Core.Bool.{_&&_}
 use lib.ListN.{length, getD, take, drop, length-take, length-drop}
 use lib.Seq.{getD-take, getD-drop}
 use denote.Ref.{now}
-use Rattle.lexer.specs.Known.{lower, equal, letters}
-use Rattle.lexer.proofs.Lookup.{part-length, getD-part, equal-step, equal-done, letters-long}
-use Rattle.lexer.proofs.known.same_letters.Statement.{statement}
-use Rattle.lexer.proofs.known.same_letters.Tie as tie
+use Rattle.words.specs.Known.{lower, equal, letters}
+use Rattle.words.proofs.Lookup.{part-length, getD-part, equal-step, equal-done, letters-long}
+use Rattle.words.proofs.known.same_letters.Statement.{statement}
+use Rattle.words.proofs.known.same_letters.Tie as tie
 
 abbrev Inv-loop : tie.InvT-loop
 Inv-loop table row text at count m₀ m =

@@ -18,11 +18,11 @@ use borrow.Author.Tests.{eq-eqb, eqb-true, leb-true}
 use Rattle.chars.proofs.Bytes.{and-l, and-r}
 use Rattle.tokens.specs.Kinds as kind
 use Rattle.tokens.specs.Texts.{Row, textOf, texts}
-use Rattle.lexer.specs.declared.guess.Sort.{Sort}
-use Rattle.lexer.specs.declared.guess.Sort.the-variants.{Words, Runs, Zeros}
-use Rattle.lexer.specs.declared.guess.Guess.{Guess}
-use Rattle.lexer.specs.Known.{lower, equal, find, words, runs, zeros, rowsOf, letters, packed, guessIn, guessOf}
-use Rattle.lexer.proofs.Characters.{clash}
+use Rattle.words.specs.declared.guess.Sort.{Sort}
+use Rattle.words.specs.declared.guess.Sort.the-variants.{Words, Runs, Zeros}
+use Rattle.words.specs.declared.guess.Guess.{Guess}
+use Rattle.words.specs.Known.{lower, equal, find, words, runs, zeros, rowsOf, letters, packed, guessIn, guessOf}
+use Rattle.chars.proofs.Scalars.{clash}
 
 -- ---- the comparison
 pub equal-is : (a b : List ℕ) → equal a b ≡ true → a ≡ b

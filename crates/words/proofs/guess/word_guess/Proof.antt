@@ -1,9 +1,9 @@
--- `lexer::guess::word_guess` meets its contract: the numbers of its arms are the packed texts, by computation. Assumes nothing.
+-- `words::guess::word_guess` meets its contract: the numbers of its arms are the packed texts, by computation. Assumes nothing.
 use borrow.Author.Tests.{ne-eqb}
 use Rattle.tokens.specs.Texts.{textOf, texts}
-use Rattle.lexer.specs.Known.{guessOf, rowsOf, words}
-use Rattle.lexer.proofs.guess.word_guess.Statement.{statement}
-use Rattle.lexer.proofs.guess.word_guess.Tie as tie
+use Rattle.words.specs.Known.{guessOf, rowsOf, words}
+use Rattle.words.proofs.guess.word_guess.Statement.{statement}
+use Rattle.words.proofs.guess.word_guess.Tie as tie
 
 returns : tie.Need-returns
 unfolding guessOf rowsOf words textOf texts

@@ -8,7 +8,7 @@ ghost use mathlib.Core.Path.{_≡_};
 ghost use mathlib.Core.List.{map};
 ghost use Prim.Native.Nat.{_+_, _-_, _*_, _≤_, _<_};
 ghost use lib.ListN.{length, take, drop};
-ghost use Rattle.lexer.specs.Known.{lower, equal, letters, packed, knownKind};
+ghost use Rattle.words.specs.Known.{lower, equal, letters, packed, knownKind};
 
 // How many letters a row has room for.
 const ROW: usize = 9;

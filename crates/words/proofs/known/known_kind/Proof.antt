@@ -1,4 +1,4 @@
--- `lexer::known::known_kind` meets its contract: the guess, confirmed, is the search. Assumes nothing.
+-- `words::known::known_kind` meets its contract: the guess, confirmed, is the search. Assumes nothing.
 use mathlib.Core.Path.{_≡_, sym, ap, _∙_}
 use mathlib.Core.Bool.{Bool, cond}
 use mathlib.Core.List.{List, map}
@@ -9,10 +9,10 @@ use borrow.Author.Tests.{ne-eqb}
 use lib.ListN.{length, take, drop}
 use denote.Ref.{now}
 use Rattle.tokens.specs.Kinds as kind
-use Rattle.lexer.specs.Known.{lower, knownKind, guessOf}
-use Rattle.lexer.proofs.Lookup.{part-length, guess-row, confirmed, confirmed-at, lookup-is, lookup-long}
-use Rattle.lexer.proofs.known.known_kind.Statement.{statement}
-use Rattle.lexer.proofs.known.known_kind.Tie as tie
+use Rattle.words.specs.Known.{lower, knownKind, guessOf}
+use Rattle.words.proofs.Lookup.{part-length, guess-row, confirmed, confirmed-at, lookup-is, lookup-long}
+use Rattle.words.proofs.known.known_kind.Statement.{statement}
+use Rattle.words.proofs.known.known_kind.Tie as tie
 
 -- the text that is looked up
 abbrev text-of : tie.Start → List ℕ

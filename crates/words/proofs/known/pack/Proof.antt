@@ -1,4 +1,4 @@
--- `lexer::known::pack` meets its contract. The invariant: the letters left, packed behind v, give the same number. Assumes nothing.
+-- `words::known::pack` meets its contract. The invariant: the letters left, packed behind v, give the same number. Assumes nothing.
 use mathlib.Core.Path.{_≡_, refl, sym, _∙_}
 use mathlib.Core.List.{map}
 use Prim.Native.Nat.{ℕ, _+_, _-_, _*_, _%_, _^_, _≤_, _<_}
@@ -6,10 +6,10 @@ use native.Mathlib.Omega.{arith}
 use borrow.Author.Needs.{needs}
 use lib.ListN.{take, drop}
 use denote.Ref.{now}
-use Rattle.lexer.specs.Known.{lower, packed}
-use Rattle.lexer.proofs.Lookup.{pack-step, pack-done}
-use Rattle.lexer.proofs.known.pack.Statement.{statement}
-use Rattle.lexer.proofs.known.pack.Tie as tie
+use Rattle.words.specs.Known.{lower, packed}
+use Rattle.words.proofs.Lookup.{pack-step, pack-done}
+use Rattle.words.proofs.known.pack.Statement.{statement}
+use Rattle.words.proofs.known.pack.Tie as tie
 
 abbrev Inv-loop : tie.InvT-loop
 Inv-loop text at count v₀ m₀ v m =
