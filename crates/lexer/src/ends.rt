@@ -11,7 +11,8 @@ use chars::offset::Offset;
 use chars::utf8::Step;
 use chars::utf8::step_at;
 ghost use mathlib.Core.Path.{_≡_};
-ghost use Prim.Native.Nat.{_<_};
+ghost use Prim.Native.Nat.{_+_, _≤_, _<_};
+ghost use lib.ListN.{length, drop};
 ghost use Rattle.chars.specs.Steps.{offset};
 ghost use Rattle.lexer.specs.Ways.{pinned};
 ghost use Rattle.lexer.specs.Scans.{span, reach, quoteLen, blockLen, inLine, inRun, goesOn};
@@ -116,10 +117,9 @@ pub fn number_end(text: &[u8], from: Offset) -> Offset
 
 // The rest goes by bytes: no byte of a longer character is below 0x80.
 // Rule 1: the quote that closes. A backslash is passed with the character after it, so that the run before a quote is even.
-pub fn quote_end(text: &[u8], from: Offset, quote: u8) -> Offset
-    requires { ⌜ Whole (now text) (from .0) ⌝ }
-    requires { ⌜ quote < 0x80 ⌝ }
-    ensures { λ r. ⌜ r ≡ offset (reach (quoteLen quote) (now (text .entry)) (from .0)) ⌝ }
+fn far_quote_end(text: &[u8], from: Offset, quote: u8) -> Offset
+    requires { ⌜ from .0 ≤ length (now text) ⌝ }
+    ensures { λ r. ⌜ r ≡ offset (from .0 + quoteLen quote (drop (from .0) (now (text .entry)))) ⌝ }
 {
     let mut at = from.0;
     while at < text.len() {
@@ -137,6 +137,41 @@ pub fn quote_end(text: &[u8], from: Offset, quote: u8) -> Offset
         }
     }
     Offset(at)
+}
+
+// Where sixteen bytes end, or the text.
+fn soon(from: Offset, length: usize) -> usize
+    requires { ⌜ from .0 ≤ length ⌝ }
+    ensures { λ r. ⌜ r ≤ length ⌝ }
+{
+    if 16 < length - from.0 {
+        return from.0 + 16;
+    }
+    length
+}
+
+// Most quoted texts are short: a look at a block, which the rest goes by, would cost them more than their few bytes.
+pub fn quote_end(text: &[u8], from: Offset, quote: u8) -> Offset
+    requires { ⌜ Whole (now text) (from .0) ⌝ }
+    requires { ⌜ quote < 0x80 ⌝ }
+    ensures { λ r. ⌜ r ≡ offset (reach (quoteLen quote) (now (text .entry)) (from .0)) ⌝ }
+{
+    let stop = soon(from, text.len());
+    let mut at = from.0;
+    while at < stop {
+        let b = text[at];
+        if b == quote {
+            return Offset(at);
+        }
+        if b == b'\\' {
+            at += 1;
+            if text.len() <= at {
+                return Offset(at);
+            }
+        }
+        at += 1;
+    }
+    far_quote_end(text, Offset(at), quote)
 }
 
 // Rule 2: the end of the line.

@@ -1,114 +1,93 @@
--- `lexer::ends::quote_end` meets its contract. The invariant: the scan over bytes from here on ends at the same offset, with no odd run of
--- backslashes before. Assumes nothing.
+-- `lexer::ends::quote_end` meets its contract. The invariant: the scan over bytes from here on ends at the same offset. Assumes nothing.
 use mathlib.Core.Path.{_≡_, refl, sym, ap, _∙_}
-use mathlib.Core.Bool.{Bool, true, false}
-use mathlib.Core.List.{List}
+use mathlib.Core.Bool.{false}
+use mathlib.Core.Logic.{⊎-elim}
 use Prim.Native.Nat.{ℕ, _+_, _-_, _≤_, _<_}
 use native.Mathlib.Omega.{arith}
-use borrow.Author.Tests.{eq-eqb, ne-eqb}
-use lib.ListN.{length, drop, getD}
+use lib.ListN.{length}
 use denote.Ref.{now}
 use Rattle.chars.specs.Steps.{offset}
-use Rattle.lexer.specs.Scans.{scan, closes, escapes, reach, quoteLen}
-use Rattle.lexer.specs.Next.{FirstOf}
-use Rattle.lexer.proofs.Nones.{neither, second}
-use Rattle.lexer.proofs.ByteScans.{byte-reach, byte-on, byte-off, byte-end, byte-first, quote-passes}
+use Rattle.lexer.specs.Scans.{closes, escapes, reach, quoteLen}
+use Rattle.lexer.proofs.ByteScans.{byte-reach, quote-passes}
+use Rattle.lexer.proofs.Quotes.{end, closed, plain, last, escaped}
 use Rattle.lexer.proofs.ends.quote_end.Statement.{statement}
 use Rattle.lexer.proofs.ends.quote_end.Tie as tie
 
--- where the scan over bytes ends, from the offset at on
-abbrev end : List ℕ → ℕ → ℕ → ℕ
-end t quote at = at + scan (closes quote) escapes false (drop at t)
-
 abbrev Inv-loop : tie.InvT-loop
-Inv-loop text quote at₀ at = end text quote at₀ ≡ end text quote at
+Inv-loop text quote stop at₀ at = (at ≤ length text) × (end text quote at₀ ≡ end text quote at)
 
 abbrev μ-loop : tie.MeasureT-loop
-μ-loop text quote at₀ at = length text - at
+μ-loop text quote stop at₀ at = length text - at
 
-module _ (t : List ℕ) (quote at to : ℕ) (f : FirstOf quote 92 t at to) where
-  skip : end t quote at ≡ end t quote to
-  skip = byte-first (closes quote) escapes t false quote 92 (neither quote 92) at to f
-
-  -- the quote; a backslash at the end; a backslash and the character after it
-  module _ (h : to < length t) where
-    closed : getD t to 0 ≡ quote → end t quote at ≡ to
-    closed e = skip ∙ byte-off (closes quote) escapes t to false h (eq-eqb (getD t to 0) quote e)
-
-    module _ (n : getD t to 0 ≡ quote → ⊥) where
-      slash : end t quote at ≡ to + 1 + scan (closes quote) escapes true (drop (to + 1) t)
-      slash =
-          skip
-          ∙ byte-on (closes quote) escapes t to false h (ne-eqb (getD t to 0) quote n)
-          ∙ ap (λ (o : Bool). to + 1 + scan (closes quote) escapes o (drop (to + 1) t)) (eq-eqb (getD t to 0) 92 (second quote 92 (getD t to 0) (f .found h) n))
-
-      last : length t ≤ to + 1 → end t quote at ≡ end t quote (to + 1)
-      last l = slash ∙ byte-end (closes quote) escapes t (to + 1) true l ∙ sym (byte-end (closes quote) escapes t (to + 1) false l)
-
-      escaped : to + 1 < length t → end t quote at ≡ end t quote (to + 1 + 1)
-      escaped l = slash ∙ byte-on (closes quote) escapes t (to + 1) true l refl
+soon-requires : tie.Need-soon-requires Inv-loop μ-loop
+soon-requires c κs = omega (arith, c .before .pre .0 .inside)
 
 loop-holds : tie.Need-loop-holds Inv-loop μ-loop
-loop-holds c = refl
+loop-holds c = (omega (arith, c .before .before .pre .0 .inside), refl)
 
-next-of-requires : tie.Need-next-of-requires Inv-loop μ-loop
-next-of-requires c κs = omega arith
+shared-slice-read-b : tie.Need-shared-slice-read-b Inv-loop μ-loop
+shared-slice-read-b c = omega (arith, c .before .before .before .soon .ensures)
 
 -- the loop's end, as the definition has it
-ended : (l : tie.At-loop Inv-loop μ-loop) (at : ℕ) → let s = l .before .before in end (now (s .args .text)) (s .args .quote) (l .loop .at) ≡ at
+ended : (l : tie.At-loop Inv-loop μ-loop) (at : ℕ) → let s = l .before .before .before in end (now (s .args .text)) (s .args .quote) (l .loop .at) ≡ at
     → offset at ≡ offset (reach (quoteLen (s .args .quote)) (now (s .args .text)) (s .args .from .0))
 ended l at e =
-    let s = l .before .before in
-    ap offset (sym (sym (byte-reach (closes (s .args .quote)) escapes (quote-passes (s .args .quote) (s .pre .1)) (now (s .args .text)) (s .args .from .0) false (s .pre .0)) ∙ l .loop .inv ∙ e))
+    let s = l .before .before .before in
+    ap offset (sym (sym (byte-reach (closes (s .args .quote)) escapes (quote-passes (s .args .quote) (s .pre .1)) (now (s .args .text)) (s .args .from .0) false (s .pre .0)) ∙ l .loop .inv .1 ∙ e))
+
+-- the byte at the loop's offset is in the text
+here : (c : tie.In-loop Inv-loop μ-loop) → c .before .loop .at < length (now (c .before .before .before .before .args .text))
+here c = omega (arith, c .loop-test .taken, c .before .before .soon .ensures)
 
 returns : tie.Need-returns Inv-loop μ-loop
 returns c =
-    let n = c .before .next-of in
     let l = c .before .before .before in
-    let a = l .before .before .args in
-    ended l (n .result .0) (skip (now (a .text)) (a .quote) (l .loop .at) (n .result .0) (n .ensures) ∙ byte-end (closes (a .quote)) escapes (now (a .text)) (n .result .0) false (c .if1 .taken))
+    let a = l .before .before .before .args in
+    ended l (l .loop .at) (closed (now (a .text)) (a .quote) (l .loop .at) (here (c .before .before)) (c .if1 .taken))
 
-shared-slice-read-if2 : tie.Need-shared-slice-read-if2 Inv-loop μ-loop
-shared-slice-read-if2 c = omega arith
+add-at : tie.Need-add-at Inv-loop μ-loop
+add-at c = omega (arith, here (c .before .before .before))
 
 returns-2 : tie.Need-returns-2 Inv-loop μ-loop
 returns-2 c =
-    let n = c .before .before .before .next-of in
     let l = c .before .before .before .before .before in
-    let a = l .before .before .args in
-    ended l (n .result .0) (closed (now (a .text)) (a .quote) (l .loop .at) (n .result .0) (n .ensures) (omega arith) (c .if2 .taken))
+    let a = l .before .before .before .args in
+    ended l (l .loop .at + 1) (last (now (a .text)) (a .quote) (l .loop .at) (here (c .before .before .before .before)) (c .before .before .if1 .left) (c .before .if2 .taken) (c .if3 .taken))
 
-add-at : tie.Need-add-at Inv-loop μ-loop
-add-at c = omega arith
+-- how far the backslash led
+led : (c : tie.Joined2 Inv-loop μ-loop) → let l = c .before .before .before .before in
+    (l .loop .at ≤ c .if2 .at) × (c .if2 .at < length (now (l .before .before .before .args .text)))
+led c =
+    let h = here (c .before .before .before) in
+    ⊎-elim (λ w. (omega (arith, w .2), omega (arith, w .2, w .1 .left))) (λ w. (omega (arith, w .1), omega (arith, w .1, h))) (c .if2 .came)
 
 add-at-2 : tie.Need-add-at-2 Inv-loop μ-loop
-add-at-2 c = omega arith
+add-at-2 c = omega (arith, led (c .before))
 
 loop-less : tie.Need-loop-less Inv-loop μ-loop
-loop-less c = omega (arith, c .before .before .before .before .next-of .ensures .after)
+loop-less c = omega (arith, led (c .before))
 
 loop-again : tie.Need-loop-again Inv-loop μ-loop
 loop-again c =
-    let n = c .before .before .before .before .next-of in
-    let l = c .before .before .before .before .before .before in
-    let a = l .before .before .args in
-    l .loop .inv ∙ escaped (now (a .text)) (a .quote) (l .loop .at) (n .result .0) (n .ensures) (omega arith) (c .before .if2 .left) (c .if3 .taken)
+    let j = c .before in
+    let l = j .before .before .before .before in
+    let a = l .before .before .before .args in
+    let t = now (a .text) in
+    let h = here (j .before .before .before) in
+    let n = j .before .if1 .left in (
+      omega (arith, led j),
+      l .loop .inv .1
+          ∙ ⊎-elim
+          (λ w. escaped t (a .quote) (l .loop .at) h n (w .0 .taken) (w .1 .left) ∙ ap (λ (i : ℕ). end t (a .quote) (i + 1)) (sym (w .2)))
+          (λ w. plain t (a .quote) (l .loop .at) h n (w .0 .left) ∙ ap (λ (i : ℕ). end t (a .quote) (i + 1)) (sym (w .1)))
+          (j .if2 .came),
+    )
 
-loop-less-2 : tie.Need-loop-less-2 Inv-loop μ-loop
-loop-less-2 c = omega (arith, c .before .before .before .before .next-of .ensures .after)
-
-loop-again-2 : tie.Need-loop-again-2 Inv-loop μ-loop
-loop-again-2 c =
-    let n = c .before .before .before .before .next-of in
-    let l = c .before .before .before .before .before .before in
-    let a = l .before .before .args in
-    l .loop .inv ∙ last (now (a .text)) (a .quote) (l .loop .at) (n .result .0) (n .ensures) (omega arith) (c .before .if2 .left) (omega (arith, c .if3 .left))
+far-quote-end-requires : tie.Need-far-quote-end-requires Inv-loop μ-loop
+far-quote-end-requires c κs = c .before .loop .inv .0
 
 returns-3 : tie.Need-returns-3 Inv-loop μ-loop
-returns-3 c =
-    let l = c .before in
-    let a = l .before .before .args in
-    ended l (l .loop .at) (byte-end (closes (a .quote)) escapes (now (a .text)) (l .loop .at) false (c .loop-test .left))
+returns-3 c = c .far-quote-end .ensures ∙ ended (c .before .before) (end _ _ _) refl
 
 pub quote-end-spec : {M : Type 1} → statement M
 quote-end-spec =
@@ -116,15 +95,14 @@ quote-end-spec =
     (tie.spec
     Inv-loop
     μ-loop
+    soon-requires
     loop-holds
-    next-of-requires
+    shared-slice-read-b
     returns
-    shared-slice-read-if2
-    returns-2
     add-at
+    returns-2
     add-at-2
     loop-less
     loop-again
-    loop-less-2
-    loop-again-2
+    far-quote-end-requires
     returns-3)
