@@ -1,9 +1,3 @@
-pub mod Characters
-pub mod Reaching
-pub mod Nones
-pub mod ByteScans
-pub mod Quotes
-pub mod Classes
 pub mod Choice
 pub mod Spelling
 pub mod Steps

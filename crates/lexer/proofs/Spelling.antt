@@ -17,10 +17,10 @@ use Rattle.chars.proofs.Halving.{out}
 use Rattle.tokens.specs.Texts.{Row, textOf, texts}
 use Rattle.words.specs.declared.guess.Sort.{Sort}
 use Rattle.words.specs.declared.guess.Sort.the-variants.{Words, Runs, Zeros}
-use Rattle.lexer.specs.Scans.{bytes}
+use Rattle.scans.specs.Scans.{bytes}
 use Rattle.words.specs.Known.{lower, equal, find, words, runs, zeros, rowsOf, knownKind}
-use Rattle.lexer.specs.Read.{Whole}
-use Rattle.lexer.proofs.Characters.{Encoded, one, many, encoded}
+use Rattle.scans.specs.Whole.{Whole}
+use Rattle.scans.proofs.Characters.{Encoded, one, many, encoded}
 
 -- every letter is ASCII
 abbrev low : List ℕ → Bool

@@ -30,12 +30,13 @@ use Rattle.tokens.proofs.Storing.{laid-none, laid-more, length-stored}
 use Rattle.lexer.specs.declared.rule.State.{State}
 use Rattle.lexer.specs.declared.rule.State.the-variants.{Default}
 use Rattle.lexer.specs.declared.read.Step.the-variants.{Token, Stopped}
-use Rattle.lexer.specs.Ways.{Ways}
-use Rattle.lexer.specs.Scans.{bytes, reach}
+use Rattle.scans.specs.Ways.{Ways}
+use Rattle.scans.specs.Scans.{bytes, reach}
 use Rattle.lexer.specs.Rules.{Carried, nothing, slice, scalar, Out, halt, took, readOne, stateAfter}
-use Rattle.lexer.specs.Read.{slotOf, Reading, stopped, next, tokens, stopAt, onward, go, reading, starBefore, stepOf, readBy, Whole, Readable, kept}
-use Rattle.lexer.proofs.Characters.{View, here, past, view, Here, stands, readable-here, star-step}
-use Rattle.lexer.proofs.Reaching.{chars-end, whole-reach}
+use Rattle.scans.specs.Whole.{starBefore, Whole, Readable}
+use Rattle.lexer.specs.Read.{slotOf, Reading, stopped, next, tokens, stopAt, onward, go, reading, stepOf, readBy, kept}
+use Rattle.scans.proofs.Characters.{View, here, past, view, Here, stands, readable-here, star-step}
+use Rattle.scans.proofs.Reaching.{chars-end, whole-reach}
 use Rattle.lexer.proofs.Steps.{read-at}
 
 module _ (w : Ways) where

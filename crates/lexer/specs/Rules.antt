@@ -10,9 +10,9 @@ use Rattle.lexer.specs.declared.rule.State.{State}
 use Rattle.lexer.specs.declared.rule.State.the-variants.{Default, PastSelect, PastFrom}
 use Rattle.lexer.specs.declared.rule.Rule.{Rule}
 use Rattle.lexer.specs.declared.rule.Rule.the-variants.{Quoted, Line, Block, Single, Numbered, Run, Charset, Word, Number, Unknown}
-use Rattle.lexer.specs.Ways.{Ways}
-use Rattle.lexer.specs.declared.goes.Stop.the-variants as stop
-use Rattle.lexer.specs.Scans.{span, quoteLen, inLine, blockLen, inRun, goesOn}
+use Rattle.scans.specs.Ways.{Ways}
+use Rattle.scans.specs.declared.goes.Stop.the-variants as stop
+use Rattle.scans.specs.Scans.{span, quoteLen, inLine, blockLen, inRun, goesOn}
 use Rattle.words.specs.declared.guess.Sort.the-variants.{Words, Runs, Zeros}
 use Rattle.words.specs.Known.{knownKind}
 

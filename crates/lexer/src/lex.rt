@@ -17,9 +17,10 @@ ghost use mathlib.Core.Path.{_≡_};
 ghost use Prim.Native.Nat.{_≤_};
 ghost use lib.ListN.{take};
 ghost use Rattle.tokens.specs.Slots.{room, laid};
-ghost use Rattle.lexer.specs.Ways.{pinned};
+ghost use Rattle.scans.specs.Ways.{pinned};
 ghost use Rattle.words.specs.Known.{letters};
-ghost use Rattle.lexer.specs.Read.{Whole, reading, tokens, walkedOf, kept};
+ghost use Rattle.scans.specs.Whole.{Whole};
+ghost use Rattle.lexer.specs.Read.{reading, tokens, walkedOf, kept};
 ghost use Rattle.lexer.specs.Lexes.{Lexes, Valid};
 
 // How many tokens were read, and where the reading stopped.
