@@ -150,7 +150,7 @@ fn soon(from: Offset, length: usize) -> usize
     length
 }
 
-// Most quoted texts are short: a look at a block, which the rest goes by, would cost them more than their few bytes.
+// Most quoted texts are short, with no backslash: a look at a block, which the rest goes by, would cost them more than their few bytes.
 pub fn quote_end(text: &[u8], from: Offset, quote: u8) -> Offset
     requires { ⌜ Whole (now text) (from .0) ⌝ }
     requires { ⌜ quote < 0x80 ⌝ }
@@ -164,10 +164,7 @@ pub fn quote_end(text: &[u8], from: Offset, quote: u8) -> Offset
             return Offset(at);
         }
         if b == b'\\' {
-            at += 1;
-            if text.len() <= at {
-                return Offset(at);
-            }
+            break;
         }
         at += 1;
     }

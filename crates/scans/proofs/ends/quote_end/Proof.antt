@@ -1,7 +1,6 @@
 -- `scans::ends::quote_end` meets its contract. The invariant: the scan over bytes from here on ends at the same offset. Assumes nothing.
 use mathlib.Core.Path.{_≡_, refl, sym, ap, _∙_}
 use mathlib.Core.Bool.{false}
-use mathlib.Core.Logic.{⊎-elim}
 use Prim.Native.Nat.{ℕ, _+_, _-_, _≤_, _<_}
 use native.Mathlib.Omega.{arith}
 use lib.ListN.{length}
@@ -9,7 +8,7 @@ use denote.Ref.{now}
 use Rattle.chars.specs.Steps.{offset}
 use Rattle.scans.specs.Scans.{closes, escapes, reach, quoteLen}
 use Rattle.scans.proofs.ByteScans.{byte-reach, quote-passes}
-use Rattle.scans.proofs.Quotes.{end, closed, plain, last, escaped}
+use Rattle.scans.proofs.Quotes.{end, closed, plain}
 use Rattle.scans.proofs.ends.quote_end.Statement.{statement}
 use Rattle.scans.proofs.ends.quote_end.Tie as tie
 
@@ -48,61 +47,23 @@ returns c =
 add-at : tie.Need-add-at Inv-loop μ-loop
 add-at c = omega (arith, here (c .before .before .before))
 
-returns-2 : tie.Need-returns-2 Inv-loop μ-loop
-returns-2 c =
-    let l = c .before .before .before .before .before in
-    let a = l .before .before .before .args in
-    ended l (l .loop .at + 1) (last (now (a .text)) (a .quote) (l .loop .at) (here (c .before .before .before .before)) (c .before .before .if1 .left) (c .before .if2 .taken) (c .if3 .taken))
-
--- how far the backslash led
-led : (c : tie.Joined2 Inv-loop μ-loop) → let l = c .before .before .before .before in
-    (l .loop .at ≤ c .if2 .at) × (c .if2 .at < length (now (l .before .before .before .args .text)))
-led c =
-    let h = here (c .before .before .before) in
-    ⊎-elim (λ w. (omega (arith, w .2), omega (arith, w .2, w .1 .left))) (λ w. (omega (arith, w .1), omega (arith, w .1, h))) (c .if2 .came)
-
-add-at-2 : tie.Need-add-at-2 Inv-loop μ-loop
-add-at-2 c = omega (arith, led (c .before))
-
 loop-less : tie.Need-loop-less Inv-loop μ-loop
-loop-less c = omega (arith, led (c .before))
+loop-less c = omega (arith, here (c .before .before .before))
 
 loop-again : tie.Need-loop-again Inv-loop μ-loop
 loop-again c =
-    let j = c .before in
-    let l = j .before .before .before .before in
+    let l = c .before .before .before .before in
     let a = l .before .before .before .args in
-    let t = now (a .text) in
-    let h = here (j .before .before .before) in
-    let n = j .before .if1 .left in (
-      omega (arith, led j),
-      l .loop .inv .1
-          ∙ ⊎-elim
-          (λ w. escaped t (a .quote) (l .loop .at) h n (w .0 .taken) (w .1 .left) ∙ ap (λ (i : ℕ). end t (a .quote) (i + 1)) (sym (w .2)))
-          (λ w. plain t (a .quote) (l .loop .at) h n (w .0 .left) ∙ ap (λ (i : ℕ). end t (a .quote) (i + 1)) (sym (w .1)))
-          (j .if2 .came),
-    )
+    let h = here (c .before .before .before) in
+    (omega (arith, h), l .loop .inv .1 ∙ plain (now (a .text)) (a .quote) (l .loop .at) h (c .before .if1 .left) (c .if2 .left))
 
 far-quote-end-requires : tie.Need-far-quote-end-requires Inv-loop μ-loop
 far-quote-end-requires c κs = c .before .loop .inv .0
 
-returns-3 : tie.Need-returns-3 Inv-loop μ-loop
-returns-3 c = c .far-quote-end .ensures ∙ ended (c .before .before) (end _ _ _) refl
+returns-2 : tie.Need-returns-2 Inv-loop μ-loop
+returns-2 c = c .far-quote-end .ensures ∙ ended (c .before .before) (end _ _ _) refl
 
 pub quote-end-spec : {M : Type 1} → statement M
 quote-end-spec =
     tie.close
-    (tie.spec
-    Inv-loop
-    μ-loop
-    soon-requires
-    loop-holds
-    shared-slice-read-b
-    returns
-    add-at
-    returns-2
-    add-at-2
-    loop-less
-    loop-again
-    far-quote-end-requires
-    returns-3)
+    (tie.spec Inv-loop μ-loop soon-requires loop-holds shared-slice-read-b returns add-at loop-less loop-again far-quote-end-requires returns-2)
