@@ -9,7 +9,7 @@ ghost use mathlib.Core.Path.{_≡_};
 ghost use mathlib.Core.List.{List};
 ghost use Prim.Native.Nat.{ℕ};
 ghost use lib.ListN.{length};
-ghost use Rattle.lexer.specs.Ways.{pinned};
+ghost use Rattle.scans.specs.Ways.{pinned};
 ghost use Rattle.lexer.specs.Lexes.{lexAnswer, lexBuffer};
 ghost use Rattle.sanitizer.specs.Promise.{sanitizeAnswer, sanitizeBuffer};
 ghost use Rattle.tokens.specs.Answers.{refusal};
