@@ -68,9 +68,10 @@ pub fn refusal_at(text: &[u8], slots: &[u32], count: usize, at: Place) -> Refusa
     requires { ⌜ (count ≤ room (now slots)) × (at .0 < count) × (at .0 ≡ firstPlace (faulty (now text)) (tokensIn (now slots) count)) ⌝ }
     ensures { λ r. ⌜ refusal r ≡ (checkForm (tokensIn (now (slots .entry)) count) then checkCuts (now (text .entry)) (tokensIn (now (slots .entry)) count)) ⌝ }
 {
-    let bad = first_malformed(slots, count);
-    if bad.0 < count {
-        return Refusal::BadToken(bad);
+    let cut = at.0;
+    let bad = first_malformed(slots, count).0;
+    if bad < count {
+        return Refusal::BadToken(Place(bad));
     }
-    Refusal::CutChar(at)
+    Refusal::CutChar(Place(cut))
 }

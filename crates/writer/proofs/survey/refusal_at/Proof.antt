@@ -21,7 +21,7 @@ first-malformed-requires c κs = search needs
 
 returns : tie.Need-returns
 returns c =
-    let call = c .before .before in
+    let call = c .before in
     let x = call .before .before .before .args in
     let ts = tokensIn (x .slots .now) (x .count) in
     ap badToken (call .first-malformed .ensures)
@@ -30,7 +30,7 @@ returns c =
 
 returns-2 : tie.Need-returns-2
 returns-2 c =
-    let call = c .before .before in
+    let call = c .before in
     let start = call .before .before .before in
     let x = start .args in
     let ts = tokensIn (x .slots .now) (x .count) in

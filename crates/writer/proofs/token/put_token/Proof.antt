@@ -20,7 +20,7 @@ marked : (c : tie.Then1) → tokenText (c .before .before .before .args .text .n
 marked c = let x = c .before .before .before .args in text-fixed (x .text .now) (x .slot) (omega arith) (omega arith) (omega arith) (inl (omega arith))
 
 put-mark-requires : tie.Need-put-mark-requires
-put-mark-requires c κs = (c .before .if1 .taken, omega (arith, ap length (marked (c .before))))
+put-mark-requires c κs = (omega arith, omega (arith, ap length (marked (c .before))))
 
 same-length : tie.Need-same-length
 same-length c = search needs
