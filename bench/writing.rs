@@ -89,7 +89,6 @@ fn run_sorts() {
 }
 
 pub fn run() {
-    run_sorts();
     println!("\n| writing | bytes | tokens | ours, ns a byte, best | median | Rust, ns a byte, best | median | of that, freeing | ours, ns a token | Rust, ns a token |");
     println!("|---|---|---|---|---|---|---|---|---|---|");
     for (name, text) in texts() {
@@ -108,4 +107,5 @@ pub fn run() {
         let [a, b, c, d, e] = [ours.0, ours.1, rust.0, rust.1, free.1].map(|ns| ns / bytes);
         println!("| {name} | {} | {count} | {a:.2} | {b:.2} | {c:.2} | {d:.2} | {e:.2} | {:.1} | {:.1} |", written.len(), ours.1 / all, rust.1 / all);
     }
+    run_sorts();
 }
