@@ -1,4 +1,4 @@
--- Printed by tools/text-proofs. `tokens::texts::keyword` meets its contract: at each kind the padded text computes. The last arm is the one kind that is left.
+-- Printed by tools/text-proofs. `tokens::texts::operators::arithmetic_or_logical` meets its contract: at each kind the padded text computes. The last arm is the one kind that is left.
 -- Assumes nothing.
 use mathlib.Core.Path.{sym, ap}
 use mathlib.Core.List.{[], _∷_}
@@ -7,8 +7,8 @@ use Rattle.tokens.specs.Kinds as kind
 use Rattle.tokens.proofs.Arms.{left-over}
 use Rattle.tokens.specs.Texts.{texts, textOf}
 use Rattle.tokens.specs.Fixed.{fixedOf}
-use Rattle.tokens.proofs.texts.keyword.Statement.{statement}
-use Rattle.tokens.proofs.texts.keyword.Tie as tie
+use Rattle.tokens.proofs.texts.operators.arithmetic_or_logical.Statement.{statement}
+use Rattle.tokens.proofs.texts.operators.arithmetic_or_logical.Tie as tie
 
 returns : tie.Need-returns
 unfolding fixedOf textOf texts
@@ -68,21 +68,9 @@ returns-14 c = ap fixedOf (sym (c .before .before .match .keys14))
 
 returns-15 : tie.Need-returns-15
 unfolding fixedOf textOf texts
-returns-15 c = ap fixedOf (sym (c .before .before .match .keys15))
-
-returns-16 : tie.Need-returns-16
-unfolding fixedOf textOf texts
-returns-16 c = ap fixedOf (sym (c .before .before .match .keys16))
-
-returns-17 : tie.Need-returns-17
-unfolding fixedOf textOf texts
-returns-17 c = ap fixedOf (sym (c .before .before .match .keys17))
-
-returns-18 : tie.Need-returns-18
-unfolding fixedOf textOf texts
-returns-18 c =
-    let rest = left-over kind.Select 18 (kind.Array ∷ kind.Between ∷ kind.Offset ∷ kind.Limit ∷ kind.On ∷ kind.Join ∷ kind.Inner ∷ kind.Values ∷ kind.Into ∷ kind.Insert ∷ kind.Set ∷ kind.Update ∷ kind.Or ∷ kind.And ∷ kind.Where ∷ kind.From ∷ kind.Select ∷ []) kind.Other tt (omega arith) (omega arith) (c .before .before .match .rest) in
+returns-15 c =
+    let rest = left-over kind.Multiply 15 (kind.Then ∷ kind.Regexp ∷ kind.Match ∷ kind.Glob ∷ kind.Rlike ∷ kind.Ilike ∷ kind.Like ∷ kind.Not ∷ kind.In ∷ kind.Minus ∷ kind.Plus ∷ kind.Modulo ∷ kind.Divide ∷ kind.Multiply ∷ []) kind.Else tt (omega arith) (omega arith) (c .before .before .match .rest) in
     ap fixedOf (sym rest)
 
-pub keyword-spec : {M : Type 1} → statement M
-keyword-spec = tie.close (tie.spec returns returns-2 returns-3 returns-4 returns-5 returns-6 returns-7 returns-8 returns-9 returns-10 returns-11 returns-12 returns-13 returns-14 returns-15 returns-16 returns-17 returns-18)
+pub arithmetic-or-logical-spec : {M : Type 1} → statement M
+arithmetic-or-logical-spec = tie.close (tie.spec returns returns-2 returns-3 returns-4 returns-5 returns-6 returns-7 returns-8 returns-9 returns-10 returns-11 returns-12 returns-13 returns-14 returns-15)

@@ -1,4 +1,4 @@
--- Printed by tools/text-proofs. `tokens::texts::comparison_or_later` meets its contract: at each kind the padded text computes. The last arm is the one kind that is left.
+-- Printed by tools/text-proofs. `tokens::texts::words::keyword` meets its contract: at each kind the padded text computes. The last arm is the one kind that is left.
 -- Assumes nothing.
 use mathlib.Core.Path.{sym, ap}
 use mathlib.Core.List.{[], _∷_}
@@ -7,8 +7,8 @@ use Rattle.tokens.specs.Kinds as kind
 use Rattle.tokens.proofs.Arms.{left-over}
 use Rattle.tokens.specs.Texts.{texts, textOf}
 use Rattle.tokens.specs.Fixed.{fixedOf}
-use Rattle.tokens.proofs.texts.comparison_or_later.Statement.{statement}
-use Rattle.tokens.proofs.texts.comparison_or_later.Tie as tie
+use Rattle.tokens.proofs.texts.words.keyword.Statement.{statement}
+use Rattle.tokens.proofs.texts.words.keyword.Tie as tie
 
 returns : tie.Need-returns
 unfolding fixedOf textOf texts
@@ -76,9 +76,13 @@ returns-16 c = ap fixedOf (sym (c .before .before .match .keys16))
 
 returns-17 : tie.Need-returns-17
 unfolding fixedOf textOf texts
-returns-17 c =
-    let rest = left-over kind.Equal 17 (kind.SpecifiedPath ∷ kind.BitwiseOr ∷ kind.BitwiseAnd ∷ kind.RightShift ∷ kind.LeftShift ∷ kind.LessThan ∷ kind.GreaterThan ∷ kind.NotEqual ∷ kind.EqualWithArrows ∷ kind.EqualOrLessThan ∷ kind.EqualOrGreaterThan ∷ kind.LessThanOrEqual ∷ kind.GreaterThanOrEqual ∷ kind.NullSafeEqual ∷ kind.Equal2 ∷ kind.Equal ∷ []) kind.SpecifiedPathAsText tt (omega arith) (omega arith) (c .before .before .match .rest) in
+returns-17 c = ap fixedOf (sym (c .before .before .match .keys17))
+
+returns-18 : tie.Need-returns-18
+unfolding fixedOf textOf texts
+returns-18 c =
+    let rest = left-over kind.Select 18 (kind.Array ∷ kind.Between ∷ kind.Offset ∷ kind.Limit ∷ kind.On ∷ kind.Join ∷ kind.Inner ∷ kind.Values ∷ kind.Into ∷ kind.Insert ∷ kind.Set ∷ kind.Update ∷ kind.Or ∷ kind.And ∷ kind.Where ∷ kind.From ∷ kind.Select ∷ []) kind.Other tt (omega arith) (omega arith) (c .before .before .match .rest) in
     ap fixedOf (sym rest)
 
-pub comparison-or-later-spec : {M : Type 1} → statement M
-comparison-or-later-spec = tie.close (tie.spec returns returns-2 returns-3 returns-4 returns-5 returns-6 returns-7 returns-8 returns-9 returns-10 returns-11 returns-12 returns-13 returns-14 returns-15 returns-16 returns-17)
+pub keyword-spec : {M : Type 1} → statement M
+keyword-spec = tie.close (tie.spec returns returns-2 returns-3 returns-4 returns-5 returns-6 returns-7 returns-8 returns-9 returns-10 returns-11 returns-12 returns-13 returns-14 returns-15 returns-16 returns-17 returns-18)
