@@ -1,5 +1,6 @@
 // One pass over a token list that settles refusals 5 and 6 and measures the text: each pass more costs its nanoseconds at every token.
 use crate::cut::is_cut;
+use crate::token::KINDS;
 use crate::token::token_len;
 use tokens::formed::carries_offsets;
 use tokens::formed::first_malformed;
@@ -39,7 +40,7 @@ fn is_faulty(text: &[u8], slot: Slot) -> bool
     !is_well_formed(slot)
 }
 
-pub fn survey(table: &[u8; 84], text: &[u8], slots: &[u32], count: usize) -> Seen
+pub fn survey(table: &[u8; KINDS], text: &[u8], slots: &[u32], count: usize) -> Seen
     requires { ⌜ (now table ≡ digits) × (length (now text) ≤ limit) × (count ≤ limit) × (count ≤ room (now slots)) ⌝ }
     ensures { λ r. ⌜ Surveyed (now (text .entry)) (now (slots .entry)) count r ⌝ }
 {
