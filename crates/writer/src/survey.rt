@@ -40,6 +40,7 @@ fn is_faulty(text: &[u8], slot: Slot) -> bool
     !is_well_formed(slot)
 }
 
+// The pass, which stops at the first token that may not be written.
 pub fn survey(table: &[u8; KINDS], text: &[u8], slots: &[u32], count: usize) -> Seen
     requires { ⌜ (now table ≡ digits) × (length (now text) ≤ limit) × (count ≤ limit) × (count ≤ room (now slots)) ⌝ }
     ensures { λ r. ⌜ Surveyed (now (text .entry)) (now (slots .entry)) count r ⌝ }
@@ -64,7 +65,7 @@ pub fn survey(table: &[u8; KINDS], text: &[u8], slots: &[u32], count: usize) -> 
 }
 
 // Why a list is refused whose first token that may not be written is at a place: 5 where any token is not well formed, before it or
-// after it; else 6.
+// after it; else 6. The text is there for the contract: nothing of it is read again.
 pub fn refusal_at(text: &[u8], slots: &[u32], count: usize, at: Place) -> Refusal
     requires { ⌜ (count ≤ room (now slots)) × (at .0 < count) × (at .0 ≡ firstPlace (faulty (now text)) (tokensIn (now slots) count)) ⌝ }
     ensures { λ r. ⌜ refusal r ≡ (checkForm (tokensIn (now (slots .entry)) count) then checkCuts (now (text .entry)) (tokensIn (now (slots .entry)) count)) ⌝ }
