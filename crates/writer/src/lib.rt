@@ -2,6 +2,7 @@
 // The whole text is measured first, and the lent buffer is filled only if it fits.
 use crate::survey::refusal_at;
 use crate::survey::survey;
+use crate::token::KINDS;
 use crate::token::beside_table;
 use crate::token::put_token;
 use crate::token::token_len;
@@ -34,7 +35,7 @@ pub enum Wrote {
 }
 
 // The length of the text, by the lent table.
-fn measure_by(table: &[u8; 84], text: &[u8], slots: &[u32], count: usize) -> usize
+fn measure_by(table: &[u8; KINDS], text: &[u8], slots: &[u32], count: usize) -> usize
     requires { ⌜ (now table ≡ digits) × (length (now text) ≤ limit) × (count ≤ limit) × (count ≤ room (now slots)) ⌝ }
     ensures { λ r. ⌜ r ≡ length (written (now (text .entry)) (tokensIn (now (slots .entry)) count)) ⌝ }
 {

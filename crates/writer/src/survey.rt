@@ -1,5 +1,6 @@
 // One pass over a token list that settles refusals 5 and 6 and measures the text: each pass more costs its nanoseconds at every token.
 use crate::cut::is_cut;
+use crate::token::KINDS;
 use crate::token::token_len;
 use tokens::formed::carries_offsets;
 use tokens::formed::first_malformed;
@@ -39,7 +40,8 @@ fn is_faulty(text: &[u8], slot: Slot) -> bool
     !is_well_formed(slot)
 }
 
-pub fn survey(table: &[u8; 84], text: &[u8], slots: &[u32], count: usize) -> Seen
+// The pass, which stops at the first token that may not be written.
+pub fn survey(table: &[u8; KINDS], text: &[u8], slots: &[u32], count: usize) -> Seen
     requires { ⌜ (now table ≡ digits) × (length (now text) ≤ limit) × (count ≤ limit) × (count ≤ room (now slots)) ⌝ }
     ensures { λ r. ⌜ Surveyed (now (text .entry)) (now (slots .entry)) count r ⌝ }
 {
@@ -63,7 +65,7 @@ pub fn survey(table: &[u8; 84], text: &[u8], slots: &[u32], count: usize) -> See
 }
 
 // Why a list is refused whose first token that may not be written is at a place: 5 where any token is not well formed, before it or
-// after it; else 6.
+// after it; else 6. The text is there for the contract: nothing of it is read again.
 pub fn refusal_at(text: &[u8], slots: &[u32], count: usize, at: Place) -> Refusal
     requires { ⌜ (count ≤ room (now slots)) × (at .0 < count) × (at .0 ≡ firstPlace (faulty (now text)) (tokensIn (now slots) count)) ⌝ }
     ensures { λ r. ⌜ refusal r ≡ (checkForm (tokensIn (now (slots .entry)) count) then checkCuts (now (text .entry)) (tokensIn (now (slots .entry)) count)) ⌝ }

@@ -37,19 +37,22 @@ fn slice_of(text: &[u8], slot: Slot) -> &[u8]
     buffer_content(text, Offset(wide(slot.first)), Offset(wide(slot.second)))
 }
 
+// How many kinds there are.
+pub const KINDS: usize = kind::UNKNOWN as usize + 1;
+
 // How many bytes of a token's text are not of its slice: a digit for each kind.
-const BESIDE: [u8; 84] =
+const BESIDE: [u8; KINDS] =
     *b"011111111111134451111123455456441232222221122112364532636465425675064491212112220000";
 
 // The table, for the public call to lend: a constant is laid out anew wherever a function names it.
-pub fn beside_table() -> [u8; 84]
+pub fn beside_table() -> [u8; KINDS]
     ensures { λ r. ⌜ r ≡ digits ⌝ }
 {
     BESIDE
 }
 
 // What the table says of a kind.
-fn beside_of(table: &[u8; 84], kind: u32) -> usize
+fn beside_of(table: &[u8; KINDS], kind: u32) -> usize
     requires { ⌜ now table ≡ digits ⌝ }
     ensures { λ r. ⌜ r ≡ beside kind ⌝ }
 {
@@ -60,7 +63,7 @@ fn beside_of(table: &[u8; 84], kind: u32) -> usize
 }
 
 // How many bytes a token's text has. The kinds before Other first, which are the most frequent.
-pub fn token_len(table: &[u8; 84], text: &[u8], slot: Slot) -> usize
+pub fn token_len(table: &[u8; KINDS], text: &[u8], slot: Slot) -> usize
     requires { ⌜ (now table ≡ digits) × (length (now text) ≤ limit) ⌝ }
     ensures { λ r. ⌜ r ≡ length (tokenText (now (text .entry)) slot) ⌝ }
 {
