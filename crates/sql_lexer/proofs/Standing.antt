@@ -29,7 +29,8 @@ use Rattle.scans.specs.Scans.{bytes, span, inRun, goesOn, quoteLen}
 use Rattle.words.specs.Known.{knownKind}
 use Rattle.lexer.specs.Rules.{Carried, nothing, slice, scalar, Out, halt, took, sliced, stateAfter, ruleOf, quoted, line, block, numbered, run, charset, word, number, byRule, readOne}
 use Rattle.lexer.specs.Read.{slotOf, Reading, tokens, onward, go}
-use Rattle.scans.proofs.Characters.{clash, encode-length}
+use Rattle.chars.proofs.Scalars.{clash}
+use Rattle.scans.proofs.Characters.{encode-length}
 use Rattle.lexer.proofs.Formed.{fits, Fits, one-fits, plain-not, unknown-not}
 use Rattle.lexer.proofs.Pieces.{Piece, pieceOf}
 use Rattle.lexer.proofs.Local.{Walk, stuck, stands, push, onWalk, walk}

@@ -1,12 +1,11 @@
 -- `scans::ends::far_quote_end` meets its contract. The invariant: the scan over bytes from here on ends at the same offset. Assumes nothing.
 use mathlib.Core.Path.{_≡_, refl, sym, ap, _∙_}
-use Prim.Native.Nat.{ℕ, _+_, _-_}
+use Prim.Native.Nat.{ℕ, _-_}
 use native.Mathlib.Omega.{arith}
-use lib.ListN.{length, getD}
+use lib.ListN.{length}
 use denote.Ref.{now}
 use Rattle.chars.specs.Steps.{offset}
-use Rattle.scans.proofs.Nones.{second}
-use Rattle.scans.proofs.Quotes.{end, over, end-first, closed, last, escaped}
+use Rattle.scans.proofs.Quotes.{end, over, end-first, closed, first-last, first-escaped}
 use Rattle.scans.proofs.ends.far_quote_end.Statement.{statement}
 use Rattle.scans.proofs.ends.far_quote_end.Tie as tie
 
@@ -58,10 +57,7 @@ loop-again c =
     let n = c .before .before .before .before .next-of in
     let l = c .before .before .before .before .before .before in
     let a = l .before .before .args in
-    let t = now (a .text) in
-    let to = n .result .0 in
-    l .loop .inv ∙ end-first t (a .quote) (l .loop .at) to (n .ensures)
-    ∙ escaped t (a .quote) to (omega arith) (c .before .if2 .left) (second (a .quote) 92 (getD t to 0) (n .ensures .found (omega arith)) (c .before .if2 .left)) (c .if3 .taken)
+    l .loop .inv ∙ first-escaped (now (a .text)) (a .quote) (l .loop .at) (n .result .0) (n .ensures) (omega arith) (c .before .if2 .left) (c .if3 .taken)
 
 loop-less-2 : tie.Need-loop-less-2 Inv-loop μ-loop
 loop-less-2 c = omega (arith, c .before .before .before .before .next-of .ensures .after)
@@ -71,11 +67,7 @@ loop-again-2 c =
     let n = c .before .before .before .before .next-of in
     let l = c .before .before .before .before .before .before in
     let a = l .before .before .args in
-    let t = now (a .text) in
-    let to = n .result .0 in
-    l .loop .inv ∙ end-first t (a .quote) (l .loop .at) to (n .ensures)
-    ∙ last t (a .quote) to (omega arith) (c .before .if2 .left) (second (a .quote) 92 (getD t to 0) (n .ensures .found (omega arith)) (c .before .if2 .left)) (c .if3 .left)
-    ∙ sym (over t (a .quote) (to + 1) (c .if3 .left))
+    l .loop .inv ∙ first-last (now (a .text)) (a .quote) (l .loop .at) (n .result .0) (n .ensures) (omega arith) (c .before .if2 .left) (c .if3 .left)
 
 returns-3 : tie.Need-returns-3 Inv-loop μ-loop
 returns-3 c =
