@@ -1,0 +1,196 @@
+// The program of document 01: lines of hexadecimal on standard input, one frame a line on standard output.
+// A line's frame is proved in crate frames; here lines are cut from the input, and frames collected until a page is written.
+use frames::print_frame;
+ghost use Prim.Native.Nat.{_≤_, _+_};
+ghost use lib.ListN.{length};
+ghost use Rattle.frames.specs.Frames.{longest};
+ghost use Rattle.shape.specs.Fits.{Fits};
+
+// The most bytes of a page that leave room for the longest frame, 32,779 bytes.
+const FULL: usize = 65536 - 32779;
+
+// How much is held of the line and of the page; whether a write failed; and whether the input has ended.
+struct Held {
+    line: usize,
+    page: usize,
+    lost: bool,
+    ended: bool,
+}
+
+// Writes the first `count` bytes, unless a write has failed before: what was written is then a beginning of what it should be, with no gap.
+fn write_out(page: &[u8], count: usize, lost: bool) -> bool
+    requires { ⌜ count ≤ length (now page) ⌝ }
+{
+    if lost {
+        return true;
+    }
+    !io::write_all(1, &page[..count])
+}
+
+// Prints the frame of the line that is held, and writes the page where the next frame may not fit.
+fn end_line(
+    held: Held,
+    line: &[u8],
+    text: &mut [u8; 8192],
+    slots: &mut [u32; 12288],
+    out: &mut [u8; 16384],
+    page: &mut [u8; 65536],
+) -> Held
+    requires { ⌜ Fits held (now line) ⌝ }
+    ensures { λ r. ⌜ Fits r (now (line .entry)) ⌝ }
+{
+    let length = held.line;
+    let at = print_frame(&line[..length], text, slots, out, page, held.page);
+    if at <= FULL {
+        return Held {
+            line: 0,
+            page: at,
+            lost: held.lost,
+            ended: held.ended,
+        };
+    }
+    Held {
+        line: 0,
+        page: 0,
+        lost: write_out(page, at, held.lost),
+        ended: held.ended,
+    }
+}
+
+// Keeps a character of the line. There is room for one more than a line may have; a longer line has the same frame
+// whatever follows, so the rest is dropped.
+fn keep(line: &mut [u8], count: usize, c: u8) -> usize
+    requires { ⌜ count ≤ length (now line) ⌝ }
+    ensures { λ r. ⌜ r ≤ length (now (line .exit)) ⌝ }
+{
+    if count < line.len() {
+        line[count] = c;
+        return count + 1;
+    }
+    count
+}
+
+// Takes one character of the input.
+fn step(
+    held: Held,
+    c: u8,
+    line: &mut [u8],
+    text: &mut [u8; 8192],
+    slots: &mut [u32; 12288],
+    out: &mut [u8; 16384],
+    page: &mut [u8; 65536],
+) -> Held
+    requires { ⌜ Fits held (now line) ⌝ }
+    ensures { λ r. ⌜ Fits r (now (line .exit)) ⌝ }
+{
+    if c == b'\n' {
+        return end_line(held, line, text, slots, out, page);
+    }
+    Held {
+        line: keep(line, held.line, c),
+        page: held.page,
+        lost: held.lost,
+        ended: held.ended,
+    }
+}
+
+// Takes a chunk of the input.
+fn feed(
+    chunk: &[u8],
+    start: Held,
+    line: &mut [u8],
+    text: &mut [u8; 8192],
+    slots: &mut [u32; 12288],
+    out: &mut [u8; 16384],
+    page: &mut [u8; 65536],
+) -> Held
+    requires { ⌜ Fits start (now line) ⌝ }
+    ensures { λ r. ⌜ Fits r (now (line .exit)) ⌝ }
+{
+    let mut held = start;
+    let mut i = 0;
+    while i < chunk.len() {
+        held = step(held, chunk[i], line, text, slots, out, page);
+        i += 1;
+    }
+    held
+}
+
+// Reads a chunk and takes it. A read that fails counts as the end of the input: what came before it is framed.
+fn turn(
+    held: Held,
+    line: &mut [u8],
+    text: &mut [u8; 8192],
+    slots: &mut [u32; 12288],
+    out: &mut [u8; 16384],
+    page: &mut [u8; 65536],
+) -> Held
+    requires { ⌜ Fits held (now line) ⌝ }
+    ensures { λ r. ⌜ Fits r (now (line .exit)) ⌝ }
+{
+    let mut buf = io::large_buffer();
+    let got = libc::read(0, &mut buf);
+    if got <= 0 {
+        return Held {
+            line: held.line,
+            page: held.page,
+            lost: held.lost,
+            ended: true,
+        };
+    }
+    let n = io::count(got, &buf);
+    feed(&buf[..n], held, line, text, slots, out, page)
+}
+
+// The end of the input ends a line that has begun; then the page is written.
+fn finish(
+    held: Held,
+    line: &[u8],
+    text: &mut [u8; 8192],
+    slots: &mut [u32; 12288],
+    out: &mut [u8; 16384],
+    page: &mut [u8; 65536],
+)
+    requires { ⌜ Fits held (now line) ⌝ }
+{
+    if 0 < held.line {
+        let last = end_line(held, line, text, slots, out, page);
+        write_out(page, last.page, last.lost);
+        return;
+    }
+    write_out(page, held.page, held.lost);
+}
+
+fn run(
+    line: &mut [u8],
+    text: &mut [u8; 8192],
+    slots: &mut [u32; 12288],
+    out: &mut [u8; 16384],
+    page: &mut [u8; 65536],
+) {
+    let mut held = Held {
+        line: 0,
+        page: 0,
+        lost: false,
+        ended: false,
+    };
+    // No input has as many chunks as this; the bound shows that the loop ends.
+    let mut turns = u64::MAX;
+    while turns > 0 {
+        held = turn(held, line, text, slots, out, page);
+        turns -= 1;
+        if held.ended || held.lost {
+            turns = 0;
+        }
+    }
+    finish(held, line, text, slots, out, page);
+}
+
+fn main() {
+    let mut line = [0u8; 16385];
+    let mut text = [0u8; 8192];
+    let mut slots = [0u32; 12288];
+    let mut out = [0u8; 16384];
+    let mut page = [0u8; 65536];
+    run(&mut line, &mut text, &mut slots, &mut out, &mut page);
+}
