@@ -5,6 +5,8 @@ mod ours;
 #[cfg(rust_source)]
 mod lexer;
 #[cfg(rust_source)]
+mod one_call;
+#[cfg(rust_source)]
 #[allow(dead_code)]
 #[path = "../compare/src/tokens.rs"]
 mod tokens;
@@ -97,6 +99,8 @@ fn main() {
     lexer::run();
     #[cfg(rust_source)]
     writing::run();
+    #[cfg(rust_source)]
+    one_call::run();
     #[cfg(not(rust_source))]
     println!("\nreading and writing: skipped, the ported Rust is not there (tools/bench says where it is looked for)");
 }

@@ -39,6 +39,55 @@ fn rusts(text: &str, calls: usize) -> [(f64, f64); 2] {
     [write, free]
 }
 
+// Lists of one sort of token over one text, which settle what a token costs and what a byte costs.
+const MARKS: usize = 40_000;
+const SLICES: usize = 2_000;
+const WIDTHS: [usize; 4] = [0, 8, 64, 512];
+
+fn sorts() -> Vec<(String, usize, Vec<u32>)> {
+    use tokens::kind;
+    let bare = |kinds: &[u32]| (0..MARKS).flat_map(|i| [kinds[i % kinds.len()], 0, 0]).collect::<Vec<_>>();
+    let slices = |kind: u32, wide: usize| (0..SLICES).flat_map(|i| [kind, (i % 7) as u32, (i % 7 + wide) as u32]).collect::<Vec<_>>();
+    let mut sorts = vec![
+        ("None".to_string(), 0, bare(&[kind::NONE])),
+        ("one-byte marks".to_string(), 1, bare(&[kind::SPACE, kind::COMMA, kind::PARENTHESE_OPEN, kind::PLACEHOLDER, kind::EQUAL, kind::DOT, kind::PARENTHESE_CLOSE])),
+        ("words of 4 bytes".to_string(), 4, bare(&[kind::FROM, kind::NULL, kind::LIKE, kind::JOIN, kind::DATE])),
+    ];
+    for wide in WIDTHS {
+        sorts.push((format!("slices of {wide} bytes"), wide, slices(kind::OTHER, wide)));
+    }
+    for wide in WIDTHS {
+        sorts.push((format!("quoted slices of {wide} bytes"), wide + 2, slices(kind::SINGLE_QUOTED, wide)));
+    }
+    sorts
+}
+
+// The line through the slices that fits best: ns a token, and ns a byte.
+fn fit(points: &[(f64, f64)]) -> (f64, f64) {
+    let count = points.len() as f64;
+    let mean = |of: fn(&(f64, f64)) -> f64| points.iter().map(of).sum::<f64>() / count;
+    let (x, y) = (mean(|p| p.0), mean(|p| p.1));
+    let slope = points.iter().map(|p| (p.0 - x) * (p.1 - y)).sum::<f64>() / points.iter().map(|p| (p.0 - x).powi(2)).sum::<f64>();
+    (y - slope * x, slope)
+}
+
+fn run_sorts() {
+    println!("\n| writing lists of one sort | bytes a token | ns a token, best | median |\n|---|---|---|---|");
+    let text = "some text of a letter, and more; ".repeat(20);
+    let mut points = vec![];
+    for (name, wide, slots) in sorts() {
+        let count = slots.len() / tokens::WORDS;
+        let (best, median) = ours(&text, &slots, wide * count, 1);
+        let (best, median) = (best / count as f64, median / count as f64);
+        println!("| {name} | {wide} | {best:.2} | {median:.2} |");
+        if name.starts_with("slices") {
+            points.push((wide as f64, best));
+        }
+    }
+    let (token, byte) = fit(&points);
+    println!("\nslices, the line that fits best: {token:.1} ns a token and {byte:.2} ns a byte");
+}
+
 pub fn run() {
     println!("\n| writing | bytes | tokens | ours, ns a byte, best | median | Rust, ns a byte, best | median | of that, freeing | ours, ns a token | Rust, ns a token |");
     println!("|---|---|---|---|---|---|---|---|---|---|");
@@ -58,4 +107,5 @@ pub fn run() {
         let [a, b, c, d, e] = [ours.0, ours.1, rust.0, rust.1, free.1].map(|ns| ns / bytes);
         println!("| {name} | {} | {count} | {a:.2} | {b:.2} | {c:.2} | {d:.2} | {e:.2} | {:.1} | {:.1} |", written.len(), ours.1 / all, rust.1 / all);
     }
+    run_sorts();
 }

@@ -20,10 +20,10 @@ const EVERY: [char; 42] = [
 ];
 
 // The bytes of each kind that carries nothing: those of the text that the Rust writes for it, which has the length of what it reads.
-struct Widths([usize; kind::UNKNOWN as usize]);
+pub struct Widths([usize; kind::UNKNOWN as usize]);
 
 impl Widths {
-    fn new() -> Widths {
+    pub fn new() -> Widths {
         let mut widths = [0; kind::UNKNOWN as usize];
         for kind in (0..kind::UNKNOWN).filter(|kind| !tokens::carries_offsets(*kind)) {
             let mut sql = sql_lexer::lex(String::new());
@@ -35,7 +35,7 @@ impl Widths {
 }
 
 // Where the Rust's reading stopped.
-fn stop_of(widths: &Widths, text: &str, tokens: &[Token]) -> usize {
+pub fn stop_of(widths: &Widths, text: &str, tokens: &[Token]) -> usize {
     let mut at = 0;
     for token in tokens {
         let [kind, first, second] = tokens::words(token);
@@ -162,7 +162,7 @@ impl Run {
 }
 
 // A statement of words, quoted texts, numbers, operators and comments, as a client would send it, or nearly.
-fn statement(random: &mut Random) -> Vec<u8> {
+pub fn statement(random: &mut Random) -> Vec<u8> {
     const WORDS: [&str; 60] = [
         "select", "from", "where", "and", "or", "update", "set", "insert", "into", "values", "inner", "join", "on", "limit", "offset", "between",
         "array", "in", "not", "then", "else", "like", "ilike", "rlike", "glob", "match", "regexp", "binary", "date", "time", "timestamp", "x", "b",

@@ -4,6 +4,8 @@
 mod chars;
 #[cfg(rust_source)]
 mod lexer;
+#[cfg(rust_source)]
+mod one_call;
 #[allow(dead_code)]
 mod ours;
 mod random;
@@ -24,14 +26,15 @@ struct Size {
     texts: u64,      // random texts, for the characters
     statements: u64, // random statements, for the reader
     lists: u64,      // random token lists, for the sanitiser and for the writer
+    calls: u64,      // random statements of four sorts, for the one call
     longest: usize,  // the longest token list of one kind of each class
 }
 
 fn main() -> ExitCode {
     let word = std::env::args().nth(1).unwrap_or_default();
     let size = match word.as_str() {
-        "quick" => Size { full: false, texts: 300_000, statements: 100_000, lists: 100_000, longest: 3 },
-        "full" => Size { full: true, texts: 12_000_000, statements: 1_000_000, lists: 2_000_000, longest: 4 },
+        "quick" => Size { full: false, texts: 300_000, statements: 100_000, lists: 100_000, calls: 20_000, longest: 3 },
+        "full" => Size { full: true, texts: 12_000_000, statements: 1_000_000, lists: 2_000_000, calls: 500_000, longest: 4 },
         _ => {
             eprintln!("usage: compare quick|full [SEED]");
             return ExitCode::from(2);
@@ -53,7 +56,7 @@ fn against_the_rust(size: &Size, seed: u64) -> u64 {
     if let Err(difference) = &sanitized {
         println!("sanitizer: DIFFERENT: {difference}");
     }
-    read + sanitized.is_err() as u64 + writer::run(size.lists, seed)
+    read + sanitized.is_err() as u64 + writer::run(size.lists, seed) + one_call::run(size.full, size.calls, seed)
 }
 
 #[cfg(not(rust_source))]

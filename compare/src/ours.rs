@@ -41,6 +41,7 @@ extern "C" {
     fn hay_lex(answer: *mut Answer, text: *const u8, text_len: usize, slots: *mut u32, words: usize);
     fn hay_sanitize(answer: *mut Answer, slots: *mut u32, words: usize, count: usize);
     fn hay_write(answer: *mut Answer, text: *const u8, text_len: usize, slots: *const u32, words: usize, count: usize, out: *mut u8, out_len: usize);
+    fn hay_sanitize_string(answer: *mut Answer, text: *const u8, text_len: usize, slots: *mut u32, words: usize, out: *mut u8, out_len: usize);
 }
 
 pub fn lex(text: &[u8], slots: &mut [u32]) -> Answer {
@@ -58,6 +59,12 @@ pub fn sanitize(slots: &mut [u32], count: usize) -> Answer {
 pub fn write(text: &[u8], slots: &[u32], count: usize, out: &mut [u8]) -> Answer {
     let mut answer = Answer::default();
     unsafe { hay_write(&mut answer, text.as_ptr(), text.len(), slots.as_ptr(), slots.len(), count, out.as_mut_ptr(), out.len()) };
+    answer
+}
+
+pub fn sanitize_string(text: &[u8], slots: &mut [u32], out: &mut [u8]) -> Answer {
+    let mut answer = Answer::default();
+    unsafe { hay_sanitize_string(&mut answer, text.as_ptr(), text.len(), slots.as_mut_ptr(), slots.len(), out.as_mut_ptr(), out.len()) };
     answer
 }
 

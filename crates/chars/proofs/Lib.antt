@@ -5,6 +5,7 @@ pub mod Scalars
 pub mod Stepping
 pub mod Sizes
 mod Gathered
+mod Blocks
 pub mod Encoded
 pub mod Whole
 pub mod Rfc

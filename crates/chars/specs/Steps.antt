@@ -1,17 +1,18 @@
 -- How the code answers: a step at an offset, and the verdict on a text, by the definitions of Utf8.antt.
 -- Assumes nothing.
-use Prim.Native.Nat.{ℕ, suc, _+_}
-use mathlib.Core.Bool.{Bool, true, cond}
+use mathlib.Core.Path.{_≡_}
+use Prim.Native.Nat.{ℕ, suc, _+_, _≤_}
+use mathlib.Core.Bool.{Bool, true, cond, _&&_, _||_, Bool·beq}
 use mathlib.Core.List.{List}
 use mathlib.Core.Option.{Option, none, some}
 use lib.Dec.{eqb, leb, ltb}
-use lib.ListN.{drop}
+use lib.ListN.{length, drop}
 use Rattle.chars.specs.declared.offset.Offset.{Offset}
 use Rattle.chars.specs.declared.utf8.Step.{Step}
 use Rattle.chars.specs.declared.utf8.Step.the-variants.{Char, Bad, End}
 use Rattle.chars.specs.declared.utf8.Verdict.{Verdict}
 use Rattle.chars.specs.declared.utf8.Verdict.the-variants.{Valid, BadAt}
-use Rattle.chars.specs.Utf8.{Front, char, bad, end, front}
+use Rattle.chars.specs.Utf8.{Front, char, bad, end, front, follows, badFrom, firstBad}
 
 -- a number of bytes, as an offset
 abbrev pub offset : ℕ → Offset
@@ -52,3 +53,23 @@ fitsThree a b = cond (eqb a 0xE0) (leb 0xA0 b) (cond (eqb a 0xED) (ltb b 0xA0) t
 -- four bytes that start with a and b are neither overlong nor above U+10FFFF
 unfoldable pub fitsFour : ℕ → ℕ → Bool
 fitsFour a b = cond (eqb a 0xF0) (leb 0x90 b) (cond (eqb a 0xF4) (ltb b 0x90) (ltb a 0xF4))
+
+-- the lead bytes of three and of four bytes that do not fit before b
+abbrev pub barredThree : ℕ → ℕ
+barredThree b = cond (ltb b 0xA0) 0xE0 0xED
+
+abbrev pub barredFour : ℕ → ℕ
+barredFour b = cond (ltb b 0x90) 0xF0 0xF4
+
+-- b is in place after p3, p2 and p1: it follows where a byte is due, and nowhere else; and p1, where it leads, fits before b
+unfoldable pub inPlace : ℕ → ℕ → ℕ → ℕ → Bool
+inPlace p3 p2 p1 b =
+    Bool·beq (leb 0xC0 p1 || leb 0xE0 p2 || leb 0xF0 p3) (follows b)
+    && Bool·beq (leb 0xC0 p1) (leb 0xC2 p1)
+    && fitsThree p1 b
+    && fitsFour p1 b
+
+-- all is valid before `at`, a character's first byte or the end: the first bad byte from there on is the text's
+pub record Settled (text : List ℕ) (at : ℕ) : Type 0 where
+  pub inside : at ≤ length text
+  pub first : badFrom 0 at (drop at text) ≡ firstBad text

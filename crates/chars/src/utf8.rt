@@ -5,7 +5,7 @@ ghost use mathlib.Core.Path.{_≡_};
 ghost use Prim.Native.Nat.{ℕ, _≤_, _<_};
 ghost use lib.ListN.{length, getD, drop};
 ghost use Rattle.chars.specs.Utf8.{front, follows, isScalar, joined, ranged, width, firstBad};
-ghost use Rattle.chars.specs.Steps.{scalarOf, sizeOf, fitsThree, fitsFour, stepAt, verdictOf};
+ghost use Rattle.chars.specs.Steps.{scalarOf, sizeOf, fitsThree, fitsFour, barredThree, barredFour, inPlace, Settled, stepAt, verdictOf};
 
 // What stands at an offset: a character, as its scalar value and the offset after it; a byte at which none starts; or nothing.
 pub enum Step {
@@ -139,26 +139,38 @@ fn any_bits(text: &[u8]) -> u8
     bits
 }
 
+// The lead byte of three bytes that may not stand before b: they would be overlong, or a surrogate.
+fn barred_three(b: u8) -> u8
+    ensures { λ r. ⌜ r ≡ barredThree b ⌝ }
+{
+    if b < 0xA0 {
+        return 0xE0;
+    }
+    0xED
+}
+
+// The same for four bytes: they would be overlong, or above U+10FFFF.
+fn barred_four(b: u8) -> u8
+    ensures { λ r. ⌜ r ≡ barredFour b ⌝ }
+{
+    if b < 0x90 {
+        return 0xF0;
+    }
+    0xF4
+}
+
 // Whether a lead byte and the byte after it start a character of three bytes: nothing overlong, and no surrogate.
 fn fits_three(a: u8, b: u8) -> bool
     ensures { λ r. ⌜ r ≡ fitsThree a b ⌝ }
 {
-    match a {
-        0xE0 => 0xA0 <= b,
-        0xED => b < 0xA0,
-        _ => true,
-    }
+    a != barred_three(b)
 }
 
 // The same for four bytes: nothing overlong, and nothing above U+10FFFF.
 fn fits_four(a: u8, b: u8) -> bool
     ensures { λ r. ⌜ r ≡ fitsFour a b ⌝ }
 {
-    match a {
-        0xF0 => 0x90 <= b,
-        0xF4 => b < 0x90,
-        _ => a < 0xF4,
-    }
+    (a != barred_four(b)) & (a < 0xF5)
 }
 
 // How many bytes the character at an offset takes; 0 where none starts. No value is joined.
@@ -208,14 +220,57 @@ fn width_at(text: &[u8], at: usize) -> usize
     0
 }
 
-// The check of a whole text: one that is all ASCII is settled at once, and another is passed by widths.
+// Whether b is in place after p3, p2 and p1. It is compiled without a branch, so that the loop below becomes vector instructions.
+fn in_place(p3: u8, p2: u8, p1: u8, b: u8) -> bool
+    ensures { λ r. ⌜ r ≡ inPlace p3 p2 p1 b ⌝ }
+{
+    let lead = 0xC0 <= p1;
+    let due = lead | (0xE0 <= p2) | (0xF0 <= p3);
+    (due == is_following(b)) & (lead == (0xC2 <= p1)) & fits_three(p1, b) & fits_four(p1, b)
+}
+
+// An offset before which all is valid: where every byte of the whole blocks of 32 is in place, the start of the character that their end
+// cuts, or their end; else 0. Vector instructions take whole blocks alone, and single bytes go quicker by widths.
+fn settle_blocks(text: &[u8]) -> usize
+    ensures { λ r. ⌜ Settled (now (text .entry)) r ⌝ }
+{
+    let end = text.len() - text.len() % 32;
+    let mut good = true;
+    let mut p3 = 0;
+    let mut p2 = 0;
+    let mut p1 = 0;
+    let mut i = 0;
+    while i < end {
+        let b = text[i];
+        good = good & in_place(p3, p2, p1, b);
+        p3 = p2;
+        p2 = p1;
+        p1 = b;
+        i += 1;
+    }
+    if !good {
+        return 0;
+    }
+    if 0xC0 <= p1 {
+        return i - 1;
+    }
+    if 0xE0 <= p2 {
+        return i - 2;
+    }
+    if 0xF0 <= p3 {
+        return i - 3;
+    }
+    i
+}
+
+// The check of a whole text: one that is all ASCII is settled at once, another by blocks, and what they leave is passed by widths.
 pub fn validate(text: &[u8]) -> Verdict
     ensures { λ r. ⌜ r ≡ verdictOf (firstBad (now (text .entry))) ⌝ }
 {
     if any_bits(text) < 0x80 {
         return Verdict::Valid;
     }
-    let mut at = 0;
+    let mut at = settle_blocks(text);
     while at < text.len() {
         let width = width_at(text, at);
         if width == 0 {

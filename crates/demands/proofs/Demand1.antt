@@ -19,7 +19,7 @@ use Rattle.tokens.specs.Slots.{room, tokensIn, laid}
 use Rattle.tokens.specs.Answers.{Answer, done, refused, limit, textTooLong, noRoomTokens, noRoomOut}
 use Rattle.tokens.specs.Checks.{_then_, fine, validity, checkText, checkCount, checkForm, afterwards}
 use Rattle.tokens.proofs.Checking.{then-assoc}
-use Rattle.lexer.specs.Ways.{pinned}
+use Rattle.scans.specs.Ways.{pinned}
 use Rattle.lexer.specs.Read.{stopAt, reading}
 use Rattle.lexer.specs.Lexes as lexer
 use Rattle.lexer.specs.Lexes.{validAnswer, lexAnswer, lexBuffer, Lexes}

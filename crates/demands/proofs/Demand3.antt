@@ -27,8 +27,8 @@ use Rattle.tokens.specs.Checks.{_then_, fine, checkText, validity, afterwards}
 use Rattle.tokens.proofs.Checking.{text-within}
 use Rattle.lexer.specs.declared.rule.State.{State}
 use Rattle.lexer.specs.declared.rule.Rule.the-variants.{Quoted}
-use Rattle.lexer.specs.Ways.{Ways, pinned}
-use Rattle.lexer.specs.Scans.{quoteLen}
+use Rattle.scans.specs.Ways.{Ways, pinned}
+use Rattle.scans.specs.Scans.{quoteLen}
 use Rattle.lexer.specs.Rules.{ruleOf}
 use Rattle.lexer.specs.Read.{partOf, stopAt, reading}
 use Rattle.lexer.specs.Lexes.{validAnswer, lexAnswer}

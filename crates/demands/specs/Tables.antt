@@ -11,7 +11,7 @@ use Rattle.tokens.specs.declared.slot.Slot.{Slot}
 use Rattle.tokens.specs.Slots.{room, tokensIn}
 use Rattle.tokens.specs.Formed.{malformed}
 use Rattle.tokens.specs.Answers.{Answer, done, refused, limit}
-use Rattle.lexer.specs.Ways.{pinned}
+use Rattle.scans.specs.Ways.{pinned}
 use Rattle.writer.specs.Written.{written, cuts}
 use Rattle.sql_lexer.specs.Promise.{shape}
 use Rattle.demands.specs.Terms.{tokensOf, at}

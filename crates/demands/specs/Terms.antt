@@ -12,7 +12,7 @@ use Rattle.tokens.specs.declared.slot.Slot.{Slot}
 use Rattle.tokens.specs.Slots.{bare}
 use Rattle.tokens.specs.Slots as slots
 use Rattle.tokens.specs.Answers.{Answer, done, refused, limit}
-use Rattle.lexer.specs.Ways.{pinned}
+use Rattle.scans.specs.Ways.{pinned}
 use Rattle.lexer.specs.Read.{tokens, reading}
 use Rattle.sql_lexer.specs.Promise.{sanitizedTokens}
 use Rattle.writer.specs.Written.{tokenText}

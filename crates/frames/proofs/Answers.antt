@@ -22,7 +22,7 @@ use Rattle.tokens.specs.Answers.{Answer, done, refused, refusal}
 use Rattle.tokens.specs.Checks.{_then_, fine, afterwards}
 use Rattle.tokens.specs.Slots.{room}
 use Rattle.tokens.specs.declared.refusal.Refusal.{Refusal}
-use Rattle.lexer.specs.Ways.{pinned}
+use Rattle.scans.specs.Ways.{pinned}
 use Rattle.lexer.specs.Lexes.{lexAnswer}
 use Rattle.writer.specs.Written.{onto}
 use Rattle.writer.specs.Promise.{checkOut, Put}

@@ -13,7 +13,7 @@ use lib.Seq.{take-all, length-take-le}
 use borrow.Author.Tests.{ltb-true, ltb-false}
 use Rattle.tokens.specs.Answers.{Answer}
 use Rattle.tokens.specs.Checks.{_then_}
-use Rattle.lexer.specs.Ways.{pinned}
+use Rattle.scans.specs.Ways.{pinned}
 use Rattle.sql_lexer.specs.Promise.{stringAnswer}
 use Rattle.frames.specs.Hex.{hexBytes}
 use Rattle.frames.specs.Frames.{lineLimit, badLine, lineAnswer, framed, Shown, frameOf}

@@ -8,7 +8,7 @@ use lib.Dec.{eqb, ltb}
 use lib.ListN.{length, getD, take}
 use Rattle.tokens.specs.Answers.{Answer, done, refused}
 use Rattle.tokens.specs.Checks.{_then_, fine, afterwards}
-use Rattle.lexer.specs.Ways.{pinned}
+use Rattle.scans.specs.Ways.{pinned}
 use Rattle.writer.specs.Written.{onto}
 use Rattle.writer.specs.Promise.{Put}
 use Rattle.sql_lexer.specs.Promise.{shape, stringAnswer, stringSlots}

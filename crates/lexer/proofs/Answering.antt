@@ -19,8 +19,9 @@ use Rattle.tokens.proofs.Checking.{text-long, text-within}
 use Rattle.tokens.specs.declared.refusal.Refusal.the-variants.{TextTooLong, NotUtf8, NoRoomTokens}
 use Rattle.lexer.specs.declared.lex.Lexed.{Lexed}
 use Rattle.lexer.specs.declared.lex.Lexed.the-variants.{Done, Refused}
-use Rattle.lexer.specs.Ways.{pinned}
-use Rattle.lexer.specs.Read.{reading, tokens, stopAt, Whole}
+use Rattle.scans.specs.Ways.{pinned}
+use Rattle.scans.specs.Whole.{Whole}
+use Rattle.lexer.specs.Read.{reading, tokens, stopAt}
 use Rattle.lexer.specs.Lexes.{validAnswer, validBuffer, lexAnswer, lexBuffer, Lexes, Valid}
 
 module _ (t ws left : List ℕ) where

@@ -20,12 +20,12 @@ use Rattle.chars.proofs.Bytes.{and-l}
 use Rattle.lexer.specs.declared.rule.State.{State}
 use Rattle.lexer.specs.declared.rule.Rule.{Rule}
 use Rattle.lexer.specs.declared.rule.Rule.the-variants.{Quoted, Line, Block, Single, Numbered, Run, Charset, Word, Number, Unknown}
-use Rattle.lexer.specs.Ways.{Ways, pinned}
+use Rattle.scans.specs.Ways.{Ways, pinned}
 use Rattle.lexer.specs.Rules.{headIs, others, ruleOf, atHash, atDash, atSlash}
-use Rattle.lexer.specs.Read.{Whole}
-use Rattle.lexer.proofs.Characters.{Here, stands, readable-here, lead-low, lead-high}
-use Rattle.lexer.proofs.Reaching.{chars-end}
-use Rattle.lexer.proofs.Classes.{numeric-in, numeric-out, capital-in, small-in, alphabetic-out}
+use Rattle.scans.specs.Whole.{Whole}
+use Rattle.scans.proofs.Characters.{Here, stands, readable-here, lead-low, lead-high}
+use Rattle.scans.proofs.Reaching.{chars-end}
+use Rattle.scans.proofs.Classes.{numeric-in, numeric-out, capital-in, small-in, alphabetic-out}
 
 module _ (w : Ways) (state : State) (c : ℕ) (cs : List ℕ) where
   pub rule-late : (c ≡ 96 → ⊥)

@@ -15,9 +15,9 @@ use Rattle.tokens.specs.Kinds as kind
 use Rattle.tokens.specs.Texts.{ascii, textOf, texts}
 use Rattle.tokens.specs.Slots as slots
 use Rattle.tokens.specs.declared.slot.Slot.{Slot}
-use Rattle.lexer.specs.Ways.{pinned}
-use Rattle.lexer.specs.Scans.{scan, span, inLine, inRun, inCharset, inWord, inNumber, goesOn}
-use Rattle.lexer.specs.Known.{equal, words, runs, zeros, rowsOf, knownKind}
+use Rattle.scans.specs.Ways.{pinned}
+use Rattle.scans.specs.Scans.{scan, span, inLine, inRun, inCharset, inWord, inNumber, goesOn}
+use Rattle.words.specs.Known.{equal, words, runs, zeros, rowsOf, knownKind}
 use Rattle.lexer.specs.Rules.{ruleOf, quoted, line, block, numbered, run, charset, word, number, byRule, readOne}
 use Rattle.lexer.specs.Read.{tokens, stopAt, go, reading}
 

@@ -18,14 +18,14 @@ use Rattle.tokens.specs.Kinds as kind
 use Rattle.tokens.specs.Texts.{Row}
 use Rattle.tokens.specs.Formed.{carriesOffsets, wellFormed, malformed, firstPlace}
 use Rattle.tokens.specs.declared.slot.Slot.{Slot}
-use Rattle.lexer.specs.declared.guess.Sort.{Sort}
-use Rattle.lexer.specs.declared.guess.Sort.the-variants.{Words, Runs, Zeros}
+use Rattle.words.specs.declared.guess.Sort.{Sort}
+use Rattle.words.specs.declared.guess.Sort.the-variants.{Words, Runs, Zeros}
 use Rattle.lexer.specs.declared.rule.State.{State}
 use Rattle.lexer.specs.declared.rule.State.the-variants.{Default, PastSelect, PastFrom}
 use Rattle.lexer.specs.declared.rule.Rule.{Rule}
 use Rattle.lexer.specs.declared.rule.Rule.the-variants.{Quoted, Line, Block, Single, Numbered, Run, Charset, Word, Number, Unknown}
-use Rattle.lexer.specs.Ways.{Ways}
-use Rattle.lexer.specs.Known.{equal, find, words, runs, zeros, rowsOf, knownKind}
+use Rattle.scans.specs.Ways.{Ways}
+use Rattle.words.specs.Known.{equal, find, words, runs, zeros, rowsOf, knownKind}
 use Rattle.lexer.specs.Rules.{Carried, nothing, slice, scalar, Out, halt, took, known, headIs, starKind, stateAfter, ruleOf, quoted, line, block, numbered, run, charset, word, number, byRule, readOne}
 use Rattle.lexer.specs.Read.{slotOf, Reading, tokens, onward, go, reading}
 

@@ -1,8 +1,3 @@
-pub mod Characters
-pub mod Reaching
-pub mod ByteScans
-pub mod Classes
-pub mod Lookup
 pub mod Choice
 pub mod Spelling
 pub mod Steps

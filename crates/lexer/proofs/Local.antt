@@ -19,14 +19,14 @@ use lib.Dec.{eqb}
 use lib.ListN.{length, take, drop, length-drop}
 use lib.Seq.{take-append-le, take-append-seam, drop-append-le, drop-append-seam}
 use Rattle.tokens.specs.Kinds as kind
-use Rattle.lexer.specs.declared.goes.Stop.the-variants as stop
-use Rattle.lexer.specs.declared.guess.Sort.the-variants as sort
+use Rattle.scans.specs.declared.goes.Stop.the-variants as stop
+use Rattle.words.specs.declared.guess.Sort.the-variants as sort
 use Rattle.lexer.specs.declared.rule.State.{State}
 use Rattle.lexer.specs.declared.rule.Rule.{Rule}
 use Rattle.lexer.specs.declared.rule.Rule.the-variants.{Quoted, Line, Block, Single, Numbered, Run, Charset, Word, Number, Unknown}
-use Rattle.lexer.specs.Ways.{Ways}
-use Rattle.lexer.specs.Scans.{scan, span, quoteLen, closes, escapes, ended, then, inLine, inRun, goesOn}
-use Rattle.lexer.specs.Known.{knownKind}
+use Rattle.scans.specs.Ways.{Ways}
+use Rattle.scans.specs.Scans.{scan, span, quoteLen, closes, escapes, ended, then, inLine, inRun, goesOn}
+use Rattle.words.specs.Known.{knownKind}
 use Rattle.lexer.specs.Rules.{Carried, nothing, slice, scalar, Out, halt, took, known, oneMore, headIs, stateAfter, ruleOf, quoted, line, block, numbered, run, charset, word, number, byRule, readOne}
 use Rattle.lexer.proofs.Pieces.{Piece, piece, pieceOf, onPieces, pieces, Bounded, one-bounded}
 

@@ -24,19 +24,20 @@ use Rattle.tokens.specs.Slots.{kinds}
 use Rattle.tokens.specs.Content.{content}
 use Rattle.tokens.specs.declared.slot.Slot.{Slot}
 use Rattle.tokens.proofs.Parts.{content-within}
-use Rattle.lexer.specs.declared.goes.Stop.the-variants as stop
-use Rattle.lexer.specs.declared.guess.Sort.the-variants as sort
+use Rattle.scans.specs.declared.goes.Stop.the-variants as stop
+use Rattle.words.specs.declared.guess.Sort.the-variants as sort
 use Rattle.lexer.specs.declared.rule.State.{State}
 use Rattle.lexer.specs.declared.rule.State.the-variants.{Default}
 use Rattle.lexer.specs.declared.rule.Rule.{Rule}
 use Rattle.lexer.specs.declared.rule.Rule.the-variants.{Quoted, Line, Block, Single, Numbered, Run, Charset, Word, Number, Unknown}
-use Rattle.lexer.specs.Ways.{Ways}
-use Rattle.lexer.specs.Scans.{bytes, span, inRun, goesOn}
-use Rattle.lexer.specs.Known.{knownKind}
+use Rattle.scans.specs.Ways.{Ways}
+use Rattle.scans.specs.Scans.{bytes, span, inRun, goesOn}
+use Rattle.words.specs.Known.{knownKind}
 use Rattle.lexer.specs.Rules.{Carried, nothing, slice, scalar, Out, halt, took, sliced, known, stateAfter, ruleOf, quoted, line, block, numbered, run, charset, word, number, byRule, readOne}
 use Rattle.lexer.specs.Read.{slotOf, Reading, tokens, onward, go, reading}
-use Rattle.lexer.proofs.Characters.{clash, encode-length}
+use Rattle.scans.proofs.Characters.{encode-length}
 use Rattle.chars.proofs.Rfc.{chars-scalars}
+use Rattle.chars.proofs.Scalars.{clash}
 use Rattle.lexer.proofs.Formed.{fits, Fits, one-fits, plain-not, plain-known, unknown-not, carries-known}
 
 pub record Piece : Type 0 where

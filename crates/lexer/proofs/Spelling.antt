@@ -15,12 +15,12 @@ use Rattle.chars.specs.Utf8.{chars, width, encode, encodeAll}
 use Rattle.chars.proofs.Bytes.{and-l, and-r}
 use Rattle.chars.proofs.Halving.{out}
 use Rattle.tokens.specs.Texts.{Row, textOf, texts}
-use Rattle.lexer.specs.declared.guess.Sort.{Sort}
-use Rattle.lexer.specs.declared.guess.Sort.the-variants.{Words, Runs, Zeros}
-use Rattle.lexer.specs.Scans.{bytes}
-use Rattle.lexer.specs.Known.{lower, equal, find, words, runs, zeros, rowsOf, knownKind}
-use Rattle.lexer.specs.Read.{Whole}
-use Rattle.lexer.proofs.Characters.{Encoded, one, many, encoded}
+use Rattle.words.specs.declared.guess.Sort.{Sort}
+use Rattle.words.specs.declared.guess.Sort.the-variants.{Words, Runs, Zeros}
+use Rattle.scans.specs.Scans.{bytes}
+use Rattle.words.specs.Known.{lower, equal, find, words, runs, zeros, rowsOf, knownKind}
+use Rattle.scans.specs.Whole.{Whole}
+use Rattle.scans.proofs.Characters.{Encoded, one, many, encoded}
 
 -- every letter is ASCII
 abbrev low : List ℕ → Bool

@@ -20,21 +20,23 @@ use Rattle.chars.specs.Steps.{offset}
 use Rattle.chars.specs.declared.offset.Offset.{Offset}
 use Rattle.chars.proofs.Bytes.{and-r, width-1}
 use Rattle.chars.proofs.Stepping.{Stepped}
+use Rattle.chars.proofs.Scalars.{clash}
 use Rattle.tokens.specs.Kinds as kind
 use Rattle.tokens.specs.Slots.{bare}
 use Rattle.tokens.specs.Answers.{limit}
-use Rattle.lexer.specs.declared.goes.Stop.the-variants as stop
-use Rattle.lexer.specs.declared.guess.Sort.{Sort}
-use Rattle.lexer.specs.declared.guess.Sort.the-variants.{Words, Runs, Zeros}
+use Rattle.scans.specs.declared.goes.Stop.the-variants as stop
+use Rattle.words.specs.declared.guess.Sort.{Sort}
+use Rattle.words.specs.declared.guess.Sort.the-variants.{Words, Runs, Zeros}
 use Rattle.lexer.specs.declared.read.Step.the-variants.{Token, Stopped}
-use Rattle.lexer.specs.Ways.{pinned}
-use Rattle.lexer.specs.Scans.{scan, span, bytes, reach, closes, escapes, quoteLen, blockLen, inLine, inRun, goesOn}
-use Rattle.lexer.specs.Known.{knownKind}
+use Rattle.scans.specs.Ways.{pinned}
+use Rattle.scans.specs.Scans.{scan, span, bytes, reach, closes, escapes, quoteLen, blockLen, inLine, inRun, goesOn}
+use Rattle.words.specs.Known.{knownKind}
 use Rattle.lexer.specs.Rules.{Out, halt, took, nothing, slice, sliced, known, oneMore, quoted, line, block, numbered, run, charset, word, number, unknown, startsWord, startsNumber}
-use Rattle.lexer.specs.Read.{partOf, stepOf, readBy, Whole, Ascii, Leads, NumberFrom}
-use Rattle.lexer.proofs.Characters.{clash, Here, stands, readable-here, stepped-ascii, whole-ascii, lead-low, low-lead}
-use Rattle.lexer.proofs.Reaching.{reach-rest, reach-in, reach-le, whole-reach, span-on, chars-end}
-use Rattle.lexer.proofs.Classes.{word-alnum, charset-letter, number-numeric}
+use Rattle.scans.specs.Whole.{Whole}
+use Rattle.lexer.specs.Read.{partOf, stepOf, readBy, Ascii, Leads, NumberFrom}
+use Rattle.scans.proofs.Characters.{Here, stands, readable-here, stepped-ascii, whole-ascii, lead-low, low-lead}
+use Rattle.scans.proofs.Reaching.{reach-rest, reach-in, reach-le, whole-reach, span-on, chars-end}
+use Rattle.scans.proofs.Classes.{word-alnum, charset-letter, number-numeric}
 use Rattle.lexer.proofs.Spelling.{known-bytes}
 
 -- ---- at a character

@@ -22,18 +22,21 @@ use Rattle.chars.specs.Utf8.{chars, width}
 use Rattle.chars.specs.Steps.{offset}
 use Rattle.chars.specs.declared.offset.Offset.{Offset}
 use Rattle.chars.proofs.Stepping.{Stepped}
+use Rattle.chars.proofs.Scalars.{clash}
 use Rattle.tokens.specs.declared.slot.Slot.{Slot}
+use Rattle.tokens.specs.Kinds as kind
 use Rattle.tokens.specs.Slots.{bare, room, stored, laid}
 use Rattle.tokens.proofs.Storing.{laid-none, laid-more, length-stored}
 use Rattle.lexer.specs.declared.rule.State.{State}
 use Rattle.lexer.specs.declared.rule.State.the-variants.{Default}
 use Rattle.lexer.specs.declared.read.Step.the-variants.{Token, Stopped}
-use Rattle.lexer.specs.Ways.{Ways}
-use Rattle.lexer.specs.Scans.{bytes, reach}
+use Rattle.scans.specs.Ways.{Ways}
+use Rattle.scans.specs.Scans.{bytes, reach}
 use Rattle.lexer.specs.Rules.{Carried, nothing, slice, scalar, Out, halt, took, readOne, stateAfter}
-use Rattle.lexer.specs.Read.{slotOf, Reading, stopped, next, tokens, stopAt, onward, go, reading, starBefore, stepOf, readBy, Whole, Readable, kept}
-use Rattle.lexer.proofs.Characters.{clash, View, here, past, view, Here, stands, readable-here, star-step}
-use Rattle.lexer.proofs.Reaching.{chars-end, whole-reach}
+use Rattle.scans.specs.Whole.{starBefore, Whole, Readable}
+use Rattle.lexer.specs.Read.{slotOf, Reading, stopped, next, tokens, stopAt, onward, go, reading, stepOf, readBy, kept}
+use Rattle.scans.proofs.Characters.{View, here, past, view, Here, stands, readable-here, star-step}
+use Rattle.scans.proofs.Reaching.{chars-end, whole-reach}
 use Rattle.lexer.proofs.Steps.{read-at}
 
 module _ (w : Ways) where
@@ -183,9 +186,9 @@ module _ (w : Ways) (t ws₀ : List ℕ) (upto : ℕ) (ws : List ℕ) (at n : �
 
     one-more : take (n + 1) all ≡ take n all ++ (slot ∷ [])
     one-more =
-        let g : getD all n (bare 0) ∷ drop (suc n) all ≡ slot ∷ tokens (goAt w t after (stateAfter (slot .kind) st)) = sym (drop-cons all n (bare 0) here-more) ∙ is-next in
-        let h : getD all n (bare 0) ≡ slot = cc in
-        rw (add-one n) (take-suc all n (bare 0) here-more ∙ ap (λ (x : Slot). take n all ++ (x ∷ [])) h)
+        let g : getD all n (bare kind.None) ∷ drop (suc n) all ≡ slot ∷ tokens (goAt w t after (stateAfter (slot .kind) st)) = sym (drop-cons all n (bare kind.None) here-more) ∙ is-next in
+        let h : getD all n (bare kind.None) ≡ slot = cc in
+        rw (add-one n) (take-suc all n (bare kind.None) here-more ∙ ap (λ (x : Slot). take n all ++ (x ∷ [])) h)
 
     kept-is : kept ws upto n slot ≡ laid (take upto (take (n + 1) all)) ws₀
     kept-is = go (decLt n upto)

@@ -10,7 +10,7 @@ use Rattle.tokens.specs.Answers.{Answer, done, noRoomTokens, refusal}
 use Rattle.tokens.specs.Checks.{_then_, checkText, afterwards}
 use Rattle.lexer.specs.declared.lex.Lexed.{Lexed}
 use Rattle.lexer.specs.declared.lex.Lexed.the-variants.{Done, Refused}
-use Rattle.lexer.specs.Ways.{Ways, pinned}
+use Rattle.scans.specs.Ways.{Ways, pinned}
 use Rattle.lexer.specs.Read.{tokens, stopAt, reading}
 
 -- the code's answer in the paper's numbers

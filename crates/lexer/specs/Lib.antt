@@ -1,6 +1,3 @@
-pub mod Ways
-pub mod Scans
-pub mod Known
 pub mod Rules
 pub mod Read
 pub mod Lexes

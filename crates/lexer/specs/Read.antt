@@ -1,24 +1,24 @@
 -- The reading of a text: its tokens, and the offset where it stops. Assumes nothing.
-use Prim.Native.Nat.{ℕ, zero, suc, _+_, _≤_, _<_}
+use Prim.Native.Nat.{ℕ, zero, suc, _+_, _<_}
 use Prim.Native.Char.{code}
 use mathlib.Core.Path.{_≡_}
 use mathlib.Core.Bool.{Bool, true, false, cond}
 use mathlib.Core.List.{List, [], _∷_}
 use lib.Dec.{eqb, ltb}
 use lib.ListN.{length, drop, getD}
-use Rattle.chars.specs.Utf8.{chars, width, encodeAll}
+use Rattle.chars.specs.Utf8.{chars, width}
 use Rattle.chars.specs.Steps.{offset}
 use Rattle.tokens.specs.Slots.{bare, stored}
-use Rattle.tokens.specs.Answers.{limit}
 use Rattle.tokens.specs.declared.slot.Slot.{Slot}
 use Rattle.lexer.specs.declared.rule.State.{State}
 use Rattle.lexer.specs.declared.rule.State.the-variants.{Default}
 use Rattle.lexer.specs.declared.read.Step.{Step}
 use Rattle.lexer.specs.declared.read.Step.the-variants.{Token, Stopped}
 use Rattle.lexer.specs.declared.lex.Walked.{Walked}
-use Rattle.lexer.specs.declared.goes.Stop.the-variants.{Number}
-use Rattle.lexer.specs.Ways.{Ways, pinned}
-use Rattle.lexer.specs.Scans.{bytes, span, reach, goesOn}
+use Rattle.scans.specs.declared.goes.Stop.the-variants.{Number}
+use Rattle.scans.specs.Whole.{Readable}
+use Rattle.scans.specs.Ways.{Ways, pinned}
+use Rattle.scans.specs.Scans.{bytes, span, reach, goesOn}
 use Rattle.lexer.specs.Rules.{Carried, nothing, slice, scalar, Out, halt, took, readOne, stateAfter}
 
 -- a token that carries a start and an end offset
@@ -64,11 +64,6 @@ unfoldable pub reading : Ways → List ℕ → Reading
 reading w text = go w 0 0 false Default (chars text)
 
 -- ---- how the code says it
--- the byte before an offset is `*`
-unfoldable pub starBefore : List ℕ → ℕ → Bool
-starBefore text zero = false
-starBefore text (suc k) = eqb (getD text k 0) (code "*")
-
 -- what a rule reads of the characters cs
 abbrev pub onChars : {A : Type 0} → A → (ℕ → List ℕ → A) → List ℕ → A
 onChars none f [] = none
@@ -82,17 +77,6 @@ stepOf at cs (took k x n) = Token (slotOf at cs k x) (offset (at + bytes (suc n)
 -- what the rule f reads at an offset
 unfoldable pub readBy : (ℕ → List ℕ → Out) → List ℕ → ℕ → Step
 readBy f text at = let cs = chars (drop at text) in stepOf at cs (onChars halt f cs)
-
--- from the offset at on the text is its characters, written out: no bad byte follows, and at is not inside a character
-pub record Whole (text : List ℕ) (at : ℕ) : Type 0 where
-  pub inside : at ≤ length text
-  pub small : length text ≤ limit
-  pub whole : encodeAll (chars (drop at text)) ≡ drop at text
-
--- and at is not the end
-pub record Readable (text : List ℕ) (at : ℕ) : Type 0 where
-  pub here : at < length text
-  pub rest : Whole text at
 
 -- an ASCII character stands at the offset
 pub record Ascii (text : List ℕ) (at : ℕ) : Type 0 where

@@ -10,11 +10,11 @@ use Rattle.lexer.specs.declared.rule.State.{State}
 use Rattle.lexer.specs.declared.rule.State.the-variants.{Default, PastSelect, PastFrom}
 use Rattle.lexer.specs.declared.rule.Rule.{Rule}
 use Rattle.lexer.specs.declared.rule.Rule.the-variants.{Quoted, Line, Block, Single, Numbered, Run, Charset, Word, Number, Unknown}
-use Rattle.lexer.specs.Ways.{Ways}
-use Rattle.lexer.specs.declared.goes.Stop.the-variants as stop
-use Rattle.lexer.specs.Scans.{span, quoteLen, inLine, blockLen, inRun, goesOn}
-use Rattle.lexer.specs.declared.guess.Sort.the-variants.{Words, Runs, Zeros}
-use Rattle.lexer.specs.Known.{knownKind}
+use Rattle.scans.specs.Ways.{Ways}
+use Rattle.scans.specs.declared.goes.Stop.the-variants as stop
+use Rattle.scans.specs.Scans.{span, quoteLen, inLine, blockLen, inRun, goesOn}
+use Rattle.words.specs.declared.guess.Sort.the-variants.{Words, Runs, Zeros}
+use Rattle.words.specs.Known.{knownKind}
 
 -- what a token carries: nothing; a slice, from after so many of its characters up to after so many; or a character
 pub data Carried : Type 0 where

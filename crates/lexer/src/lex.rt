@@ -1,5 +1,4 @@
 // The whole reading: one loop, and its public face.
-use crate::known::letter_table;
 use crate::read::Step;
 use crate::read::read_one;
 use crate::rule::State;
@@ -13,13 +12,15 @@ use tokens::refusal::Refusal;
 use tokens::slot::Slot;
 use tokens::slot::put;
 use tokens::slot::whole_slots;
+use words::known::letter_table;
 ghost use mathlib.Core.Path.{_≡_};
 ghost use Prim.Native.Nat.{_≤_};
 ghost use lib.ListN.{take};
 ghost use Rattle.tokens.specs.Slots.{room, laid};
-ghost use Rattle.lexer.specs.Ways.{pinned};
-ghost use Rattle.lexer.specs.Known.{letters};
-ghost use Rattle.lexer.specs.Read.{Whole, reading, tokens, walkedOf, kept};
+ghost use Rattle.scans.specs.Ways.{pinned};
+ghost use Rattle.words.specs.Known.{letters};
+ghost use Rattle.scans.specs.Whole.{Whole};
+ghost use Rattle.lexer.specs.Read.{reading, tokens, walkedOf, kept};
 ghost use Rattle.lexer.specs.Lexes.{Lexes, Valid};
 
 // How many tokens were read, and where the reading stopped.

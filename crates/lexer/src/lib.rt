@@ -1,8 +1,4 @@
 // Reading a statement into tokens: what lexer.rs is in the Rust. Document 01, "lexer.rs: reading rules, first match wins".
-mod ends;
-mod goes;
-mod guess;
-mod known;
 pub mod lex;
 pub mod read;
 pub mod rule;

@@ -1,32 +1,33 @@
 // One token: a small reader for each rule, and the choice among them. A reader is called from one place, so that it stands in the loop.
-use crate::ends::block_end;
-use crate::ends::charset_end;
-use crate::ends::line_end;
-use crate::ends::number_end;
-use crate::ends::numerics_end;
-use crate::ends::quote_end;
-use crate::ends::run_end;
-use crate::ends::word_end;
-use crate::guess::Sort;
-use crate::known::known_kind;
 use crate::rule::Rule;
 use crate::rule::State;
 use crate::rule::rule_at;
 use chars::offset::Offset;
 use chars::utf8::step_at;
+use scans::ends::block_end;
+use scans::ends::charset_end;
+use scans::ends::line_end;
+use scans::ends::number_end;
+use scans::ends::numerics_end;
+use scans::ends::quote_end;
+use scans::ends::run_end;
+use scans::ends::word_end;
 use tokens::kind;
 use tokens::slot::Slot;
 use tokens::slot::bare;
+use words::guess::Sort;
+use words::known::known_kind;
 ghost use mathlib.Core.Path.{_≡_};
 ghost use Prim.Native.Nat.{_+_, _≤_, _<_};
 ghost use lib.ListN.{length};
 ghost use Rattle.chars.specs.Steps.{offset};
 ghost use Rattle.tokens.specs.Slots.{bare};
 ghost use Rattle.tokens.specs.Answers.{limit};
-ghost use Rattle.lexer.specs.Ways.{pinned};
-ghost use Rattle.lexer.specs.Known.{letters};
+ghost use Rattle.scans.specs.Ways.{pinned};
+ghost use Rattle.words.specs.Known.{letters};
 ghost use Rattle.lexer.specs.Rules.{quoted, line, block, numbered, run, charset, word, number, unknown, readOne, startsWord, startsNumber};
-ghost use Rattle.lexer.specs.Read.{partOf, starBefore, readBy, Readable, Ascii, Leads, NumberFrom};
+ghost use Rattle.scans.specs.Whole.{starBefore, Readable};
+ghost use Rattle.lexer.specs.Read.{partOf, readBy, Ascii, Leads, NumberFrom};
 
 // A token and the offset after it; or nothing, at a run that is not recognised.
 pub enum Step {

@@ -11,9 +11,10 @@ ghost use lib.Dec.{eqb};
 ghost use lib.ListN.{length, drop};
 ghost use Rattle.chars.specs.Utf8.{chars};
 ghost use Rattle.chars.specs.Class.{numeric};
-ghost use Rattle.lexer.specs.Ways.{pinned};
+ghost use Rattle.scans.specs.Ways.{pinned};
 ghost use Rattle.lexer.specs.Rules.{headIs, starKind, stateAfter, atHash, atDash, atSlash, others, ruleOf};
-ghost use Rattle.lexer.specs.Read.{onChars, Whole, Readable};
+ghost use Rattle.scans.specs.Whole.{Whole, Readable};
+ghost use Rattle.lexer.specs.Read.{onChars};
 
 // Whether a `select` was read with no `from` since (rule 6).
 pub enum State {

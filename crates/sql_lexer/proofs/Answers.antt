@@ -15,7 +15,7 @@ use Rattle.tokens.specs.Answers.{Answer, done, refusal, noRoomOut}
 use Rattle.tokens.specs.Checks.{_then_, afterwards}
 use Rattle.tokens.specs.Slots.{room, laid}
 use Rattle.tokens.proofs.Checking.{refusal-then, refusal-after}
-use Rattle.lexer.specs.Ways.{pinned}
+use Rattle.scans.specs.Ways.{pinned}
 use Rattle.lexer.specs.Read.{tokens, reading}
 use Rattle.lexer.specs.Lexes.{lexAnswer, lexBuffer, Lexes}
 use Rattle.lexer.specs.declared.lex.Lexed.the-variants as lexed

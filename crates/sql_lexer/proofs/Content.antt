@@ -26,8 +26,8 @@ use Rattle.tokens.specs.Texts.{textOf}
 use Rattle.lexer.specs.declared.rule.State.{State}
 use Rattle.lexer.specs.declared.rule.State.the-variants.{Default}
 use Rattle.lexer.specs.declared.rule.Rule.the-variants.{Quoted}
-use Rattle.lexer.specs.Ways.{Ways}
-use Rattle.lexer.specs.Scans.{bytes, quoteLen}
+use Rattle.scans.specs.Ways.{Ways}
+use Rattle.scans.specs.Scans.{bytes, quoteLen}
 use Rattle.lexer.specs.Rules.{Carried, nothing, slice, scalar, Out, halt, took, ruleOf, stateAfter, quoted, byRule, readOne}
 use Rattle.lexer.specs.Read.{slotOf, partOf, tokens, reading, go}
 use Rattle.lexer.proofs.Pieces.{Piece, piece, pieces, pieceKinds, kinds-pieces, Spells, Each, reading-spells}

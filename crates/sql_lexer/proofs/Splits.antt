@@ -14,7 +14,7 @@ use Rattle.chars.proofs.Bytes.{and-l, and-r}
 use Rattle.chars.proofs.Whole.{whole}
 use Rattle.chars.proofs.Encoded.{chars-encoded, encoded-valid}
 use Rattle.chars.proofs.Rfc.{chars-scalars}
-use Rattle.lexer.proofs.Characters.{High, Encoded, one, many, encoded}
+use Rattle.scans.proofs.Characters.{High, Encoded, one, many, encoded}
 
 module _ (q : ℕ) (low : q < 0x80) (rest : List ℕ) where
   -- bytes from 0x80 on at the front are none of them q

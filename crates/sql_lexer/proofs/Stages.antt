@@ -21,7 +21,7 @@ use Rattle.tokens.specs.Slots.{room, tokensIn, laid, Left}
 use Rattle.tokens.specs.Formed.{firstPlace, malformed}
 use Rattle.tokens.proofs.Storing.{left-then, left-laid}
 use Rattle.tokens.proofs.Laid.{tokens-laid, laid-left}
-use Rattle.lexer.specs.Ways.{pinned}
+use Rattle.scans.specs.Ways.{pinned}
 use Rattle.lexer.specs.Read.{tokens, stopAt, reading}
 use Rattle.lexer.specs.Lexes.{validAnswer, lexAnswer, lexBuffer, Lexes}
 use Rattle.lexer.specs.declared.lex.Lexed.the-variants.{Done}

@@ -22,14 +22,15 @@ use Rattle.tokens.proofs.Forms.{carries-in}
 use Rattle.lexer.specs.declared.rule.State.{State}
 use Rattle.lexer.specs.declared.rule.Rule.{Rule}
 use Rattle.lexer.specs.declared.rule.Rule.the-variants.{Quoted, Line, Block, Single, Numbered, Run, Charset, Word, Number, Unknown}
-use Rattle.lexer.specs.Ways.{Ways}
-use Rattle.lexer.specs.declared.goes.Stop.the-variants as stop
-use Rattle.lexer.specs.declared.guess.Sort.the-variants as sort
-use Rattle.lexer.specs.Scans.{bytes, span, inRun, goesOn, quoteLen}
-use Rattle.lexer.specs.Known.{knownKind}
+use Rattle.scans.specs.Ways.{Ways}
+use Rattle.scans.specs.declared.goes.Stop.the-variants as stop
+use Rattle.words.specs.declared.guess.Sort.the-variants as sort
+use Rattle.scans.specs.Scans.{bytes, span, inRun, goesOn, quoteLen}
+use Rattle.words.specs.Known.{knownKind}
 use Rattle.lexer.specs.Rules.{Carried, nothing, slice, scalar, Out, halt, took, sliced, stateAfter, ruleOf, quoted, line, block, numbered, run, charset, word, number, byRule, readOne}
 use Rattle.lexer.specs.Read.{slotOf, Reading, tokens, onward, go}
-use Rattle.lexer.proofs.Characters.{clash, encode-length}
+use Rattle.chars.proofs.Scalars.{clash}
+use Rattle.scans.proofs.Characters.{encode-length}
 use Rattle.lexer.proofs.Formed.{fits, Fits, one-fits, plain-not, unknown-not}
 use Rattle.lexer.proofs.Pieces.{Piece, pieceOf}
 use Rattle.lexer.proofs.Local.{Walk, stuck, stands, push, onWalk, walk}

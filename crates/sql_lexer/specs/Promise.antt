@@ -7,7 +7,7 @@ use Rattle.tokens.specs.declared.slot.Slot.{Slot}
 use Rattle.tokens.specs.Slots.{room, laid}
 use Rattle.tokens.specs.Answers.{Answer, done, refusal}
 use Rattle.tokens.specs.Checks.{_then_, afterwards}
-use Rattle.lexer.specs.Ways.{Ways, pinned}
+use Rattle.scans.specs.Ways.{Ways, pinned}
 use Rattle.lexer.specs.Read.{tokens, stopAt, reading}
 use Rattle.lexer.specs.Lexes.{lexAnswer}
 use Rattle.sanitizer.specs.Run.{sanitized}

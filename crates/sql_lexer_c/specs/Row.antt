@@ -25,3 +25,7 @@ ofSanitising ns = record { refusal = 0; detail = 0; tokens = 0; stop = 0; expose
 -- writing answers the text's length
 abbrev pub ofWriting : List ℕ → HayAnswer
 ofWriting ns = record { refusal = 0; detail = 0; tokens = 0; stop = 0; exposed = 0; length = getD ns 0 0 }
+
+-- the one call answers the token count, the stop offset, the exposed count and the shape's length
+abbrev pub ofShaping : List ℕ → HayAnswer
+ofShaping ns = record { refusal = 0; detail = 0; tokens = getD ns 0 0; stop = getD ns 1 0; exposed = getD ns 2 0; length = getD ns 3 0 }

@@ -1,13 +1,15 @@
-// The calls for Rust and C: `extern "C"` over the crates below. Nothing is decided here; an answer becomes the paper's numbers.
+// The calls for Rust and C: `extern "C"` over the public face. Nothing is decided here; an answer becomes the paper's numbers. In C,
+// include/hayrumble.h.
 use lexer::lex::Lexed;
 use sanitizer::Sanitized;
+use sql_lexer::Shaped;
 use tokens::refusal::Refusal;
 use writer::Wrote;
 ghost use mathlib.Core.Path.{_≡_};
 ghost use mathlib.Core.List.{List};
 ghost use Prim.Native.Nat.{ℕ};
 ghost use lib.ListN.{length};
-ghost use Rattle.lexer.specs.Ways.{pinned};
+ghost use Rattle.scans.specs.Ways.{pinned};
 ghost use Rattle.lexer.specs.Lexes.{lexAnswer, lexBuffer};
 ghost use Rattle.sanitizer.specs.Promise.{sanitizeAnswer, sanitizeBuffer};
 ghost use Rattle.tokens.specs.Answers.{refusal};
@@ -15,7 +17,8 @@ ghost use Rattle.tokens.specs.Checks.{afterwards};
 ghost use Rattle.tokens.specs.Slots.{room, tokensIn};
 ghost use Rattle.writer.specs.Written.{written, onto};
 ghost use Rattle.writer.specs.Promise.{writeAnswer};
-ghost use Rattle.sql_lexer_c.specs.Row.{refusedRow, inNumbers, ofReading, ofSanitising, ofWriting};
+ghost use Rattle.sql_lexer_c.specs.Row.{refusedRow, inNumbers, ofReading, ofSanitising, ofWriting, ofShaping};
+ghost use Rattle.sql_lexer.specs.Promise.{stringAnswer, stringSlots, stringOut};
 
 // An answer: a refusal, 1 to 7, and its detail; or refusal 0, and the numbers that the call answers with. A field that an answer
 // does not have is 0.
@@ -62,7 +65,7 @@ pub extern "C" fn hay_lex(text: &[u8], slots: &mut [u32]) -> HayAnswer
     ensures { λ r. ⌜ r ≡ inNumbers ofReading (lexAnswer pinned (now (text .entry)) (room (now (slots .entry)))) ⌝ }
     ensures { λ r. ⌜ now (slots .exit) ≡ lexBuffer pinned (now (text .entry)) (now (slots .entry)) ⌝ }
 {
-    let answer = lexer::lex::lex(text, slots);
+    let answer = sql_lexer::lex(text, slots);
     match answer {
         Lexed::Done(tokens, stop) => HayAnswer {
             refusal: 0,
@@ -81,7 +84,7 @@ pub extern "C" fn hay_sanitize(slots: &mut [u32], count: usize) -> HayAnswer
     ensures { λ r. ⌜ r ≡ inNumbers ofSanitising (sanitizeAnswer (now (slots .entry)) count) ⌝ }
     ensures { λ r. ⌜ now (slots .exit) ≡ sanitizeBuffer (now (slots .entry)) count ⌝ }
 {
-    let answer = sanitizer::sanitize(slots, count);
+    let answer = sql_lexer::sanitize(slots, count);
     match answer {
         Sanitized::Done(exposed) => HayAnswer {
             refusal: 0,
@@ -100,7 +103,7 @@ pub extern "C" fn hay_write(text: &[u8], slots: &[u32], count: usize, out: &mut 
     ensures { λ r. ⌜ r ≡ inNumbers ofWriting (writeAnswer (now (text .entry)) (now (slots .entry)) count (length (now (out .entry)))) ⌝ }
     ensures { λ r. ⌜ now (out .exit) ≡ afterwards (writeAnswer (now (text .entry)) (now (slots .entry)) count (length (now (out .entry)))) (onto (written (now (text .entry)) (tokensIn (now (slots .entry)) count)) (now (out .entry))) (now (out .entry)) ⌝ }
 {
-    let answer = writer::write(text, slots, count, out);
+    let answer = sql_lexer::write(text, slots, count, out);
     match answer {
         Wrote::Done(length) => HayAnswer {
             refusal: 0,
@@ -111,5 +114,28 @@ pub extern "C" fn hay_write(text: &[u8], slots: &[u32], count: usize, out: &mut 
             length: length as u64,
         },
         Wrote::Refused(why) => refusal_numbers(why),
+    }
+}
+
+#[no_mangle]
+pub extern "C" fn hay_sanitize_string(text: &[u8], slots: &mut [u32], out: &mut [u8]) -> HayAnswer
+    ensures { λ r. ⌜ r ≡ inNumbers ofShaping (stringAnswer pinned (now (text .entry)) (room (now (slots .entry))) (length (now (out .entry)))) ⌝ }
+    ensures { λ r. ⌜ now (slots .exit) ≡ stringSlots pinned (now (text .entry)) (now (slots .entry)) ⌝ }
+    ensures { λ r. ⌜ now (out .exit) ≡ stringOut pinned (now (text .entry)) (room (now (slots .entry))) (now (out .entry)) ⌝ }
+{
+    let answer = sql_lexer::sanitize_string(text, slots, out);
+    match answer {
+        Shaped::Done(figures) => {
+            let stop = figures.stop;
+            HayAnswer {
+                refusal: 0,
+                detail: 0,
+                tokens: figures.tokens as u64,
+                stop: stop.0 as u64,
+                exposed: figures.exposed as u64,
+                length: figures.length as u64,
+            }
+        }
+        Shaped::Refused(why) => refusal_numbers(why),
     }
 }

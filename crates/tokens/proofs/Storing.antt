@@ -23,7 +23,8 @@ use native.Mathlib.Omega.{arith}
 use lib.ListN.{length, getD, take, drop, set, length-set, length-append, length-drop}
 use lib.Seq.{getD-set-same, getD-set-other, ext-getD, drop-set-lt, drop-cons, sets-eq, take-at, drop-append-add, drop-drop}
 use Rattle.tokens.specs.declared.slot.Slot.{Slot}
-use Rattle.tokens.specs.Slots.{bare, room, slotAt, stored, tokensFrom, tokensIn, words, laid, Left}
+use Rattle.tokens.specs.Kinds as kind
+use Rattle.tokens.specs.Slots.{wordsPerSlot, bare, room, slotAt, stored, tokensFrom, tokensIn, words, laid, Left}
 
 -- ---- reading
 pub length-tokens : (ws : List ℕ) (i n : ℕ) → length (tokensFrom ws i n) ≡ n
@@ -63,59 +64,59 @@ slot-ext a b p q r = λ i. record { kind = p i; first = q i; second = r i }
 module _ (ws : List ℕ) (i : ℕ) (t : Slot) where
   -- the words after the first of the three stores, and after the second
   abbrev one : List ℕ
-  one = set ws (i * 3) (t .kind)
+  one = set ws (i * wordsPerSlot) (t .kind)
 
   abbrev two : List ℕ
-  two = set one (i * 3 + 1) (t .first)
+  two = set one (i * wordsPerSlot + 1) (t .first)
 
   pub length-stored : length (stored ws i t) ≡ length ws
   unfolding stored
   length-stored = simp length-set
 
   pub room-stored : room (stored ws i t) ≡ room ws
-  room-stored = ap (λ (n : ℕ). n / 3) length-stored
+  room-stored = ap (λ (n : ℕ). n / wordsPerSlot) length-stored
 
   pub slot-stored : i < room ws → slotAt (stored ws i t) i ≡ t
   unfolding stored
   slot-stored h =
-      let l : length one ≡ length ws = length-set ws (i * 3) (t .kind) in
-      let m : length two ≡ length one = length-set one (i * 3 + 1) (t .first) in
+      let l : length one ≡ length ws = length-set ws (i * wordsPerSlot) (t .kind) in
+      let m : length two ≡ length one = length-set one (i * wordsPerSlot + 1) (t .first) in
       slot-ext _ _
-      (getD-set-other two (i * 3 + 2) (i * 3) (t .second) 0 (omega arith)
-      ∙ getD-set-other one (i * 3 + 1) (i * 3) (t .first) 0 (omega arith) ∙ getD-set-same ws (i * 3) (t .kind) 0 (omega arith))
-      (getD-set-other two (i * 3 + 2) (i * 3 + 1) (t .second) 0 (omega arith) ∙ getD-set-same one (i * 3 + 1) (t .first) 0 (omega arith))
-      (getD-set-same two (i * 3 + 2) (t .second) 0 (omega arith))
+      (getD-set-other two (i * wordsPerSlot + 2) (i * wordsPerSlot) (t .second) 0 (omega arith)
+      ∙ getD-set-other one (i * wordsPerSlot + 1) (i * wordsPerSlot) (t .first) 0 (omega arith) ∙ getD-set-same ws (i * wordsPerSlot) (t .kind) 0 (omega arith))
+      (getD-set-other two (i * wordsPerSlot + 2) (i * wordsPerSlot + 1) (t .second) 0 (omega arith) ∙ getD-set-same one (i * wordsPerSlot + 1) (t .first) 0 (omega arith))
+      (getD-set-same two (i * wordsPerSlot + 2) (t .second) 0 (omega arith))
 
-  far : (w : ℕ) → (w ≡ i * 3 → ⊥) → (w ≡ i * 3 + 1 → ⊥) → (w ≡ i * 3 + 2 → ⊥) → getD (stored ws i t) w 0 ≡ getD ws w 0
+  far : (w : ℕ) → (w ≡ i * wordsPerSlot → ⊥) → (w ≡ i * wordsPerSlot + 1 → ⊥) → (w ≡ i * wordsPerSlot + 2 → ⊥) → getD (stored ws i t) w 0 ≡ getD ws w 0
   unfolding stored
   far w a b e =
-      getD-set-other two (i * 3 + 2) w (t .second) 0 e ∙ getD-set-other one (i * 3 + 1) w (t .first) 0 b
-      ∙ getD-set-other ws (i * 3) w (t .kind) 0 a
+      getD-set-other two (i * wordsPerSlot + 2) w (t .second) 0 e ∙ getD-set-other one (i * wordsPerSlot + 1) w (t .first) 0 b
+      ∙ getD-set-other ws (i * wordsPerSlot) w (t .kind) 0 a
 
   pub slot-other : (j : ℕ) → (j ≡ i → ⊥) → slotAt (stored ws i t) j ≡ slotAt ws j
   slot-other j h =
-      slot-ext _ _ (far (j * 3) (omega arith) (omega arith) (omega arith)) (far (j * 3 + 1) (omega arith) (omega arith) (omega arith))
-      (far (j * 3 + 2) (omega arith) (omega arith) (omega arith))
+      slot-ext _ _ (far (j * wordsPerSlot) (omega arith) (omega arith) (omega arith)) (far (j * wordsPerSlot + 1) (omega arith) (omega arith) (omega arith))
+      (far (j * wordsPerSlot + 2) (omega arith) (omega arith) (omega arith))
 
   module _ (n : ℕ) (h : i < n) (l : n ≤ room ws) where
     pub tokens-stored : tokensIn (stored ws i t) n ≡ set (tokensIn ws n) i t
     tokens-stored =
-        ext-getD (bare 0) _ _ (length-tokens (stored ws i t) 0 n ∙ sym (length-set (tokensIn ws n) i t ∙ length-tokens ws 0 n))
+        ext-getD (bare kind.None) _ _ (length-tokens (stored ws i t) 0 n ∙ sym (length-set (tokensIn ws n) i t ∙ length-tokens ws 0 n))
         (λ j hj. at j (subst (λ (m : ℕ). j < m) (length-tokens (stored ws i t) 0 n) hj))
       where
-        at : (j : ℕ) → j < n → getD (tokensIn (stored ws i t) n) j (bare 0) ≡ getD (set (tokensIn ws n) i t) j (bare 0)
-        at j hj = getD-tokens (stored ws i t) n j (bare 0) hj ∙ same (ℕ-discrete j i)
+        at : (j : ℕ) → j < n → getD (tokensIn (stored ws i t) n) j (bare kind.None) ≡ getD (set (tokensIn ws n) i t) j (bare kind.None)
+        at j hj = getD-tokens (stored ws i t) n j (bare kind.None) hj ∙ same (ℕ-discrete j i)
           where
-            same : Dec (j ≡ i) → slotAt (stored ws i t) j ≡ getD (set (tokensIn ws n) i t) j (bare 0)
+            same : Dec (j ≡ i) → slotAt (stored ws i t) j ≡ getD (set (tokensIn ws n) i t) j (bare kind.None)
             same (yes e) =
-                subst (λ (m : ℕ). slotAt (stored ws i t) m ≡ getD (set (tokensIn ws n) i t) m (bare 0)) (sym e)
-                (slot-stored (omega arith) ∙ sym (getD-set-same (tokensIn ws n) i t (bare 0) (omega (arith, length-tokens ws 0 n))))
-            same (no ne) = slot-other j ne ∙ sym (getD-set-other (tokensIn ws n) i j t (bare 0) ne ∙ getD-tokens ws n j (bare 0) hj)
+                subst (λ (m : ℕ). slotAt (stored ws i t) m ≡ getD (set (tokensIn ws n) i t) m (bare kind.None)) (sym e)
+                (slot-stored (omega arith) ∙ sym (getD-set-same (tokensIn ws n) i t (bare kind.None) (omega (arith, length-tokens ws 0 n))))
+            same (no ne) = slot-other j ne ∙ sym (getD-set-other (tokensIn ws n) i j t (bare kind.None) ne ∙ getD-tokens ws n j (bare kind.None) hj)
 
     pub left-stored : Left n ws (stored ws i t) (set (tokensIn ws n) i t)
     left-stored = record {
       tokens = tokens-stored;
-      rest = unfold stored in drop-set-lt (n * 3) _ (i * 3 + 2) _ (omega arith) ∙ drop-set-lt (n * 3) _ (i * 3 + 1) _ (omega arith) ∙ drop-set-lt (n * 3) ws (i * 3) _ (omega arith);
+      rest = unfold stored in drop-set-lt (n * wordsPerSlot) _ (i * wordsPerSlot + 2) _ (omega arith) ∙ drop-set-lt (n * wordsPerSlot) _ (i * wordsPerSlot + 1) _ (omega arith) ∙ drop-set-lt (n * wordsPerSlot) ws (i * wordsPerSlot) _ (omega arith);
       long = length-stored;
     }
 
@@ -126,37 +127,37 @@ left-same n ws = record { tokens = refl; rest = refl; long = refl }
 pub left-then : {n : ℕ} {a b c : List ℕ} {ts us : List Slot} → Left n a b ts → Left n b c us → Left n a c us
 left-then p q = record { tokens = q .tokens; rest = q .rest ∙ p .rest; long = q .long ∙ p .long }
 
-whole-from : (n i : ℕ) (ws : List ℕ) → (i + n) * 3 ≤ length ws → words (tokensFrom ws i n) ++ drop ((i + n) * 3) ws ≡ drop (i * 3) ws
+whole-from : (n i : ℕ) (ws : List ℕ) → (i + n) * wordsPerSlot ≤ length ws → words (tokensFrom ws i n) ++ drop ((i + n) * wordsPerSlot) ws ≡ drop (i * wordsPerSlot) ws
 unfolding words tokensFrom
-whole-from zero i ws h = let e : (i + 0) * 3 ≡ i * 3 = omega arith in ap (λ (m : ℕ). drop m ws) e
+whole-from zero i ws h = let e : (i + 0) * wordsPerSlot ≡ i * wordsPerSlot = omega arith in ap (λ (m : ℕ). drop m ws) e
 whole-from (suc n) i ws h =
-    let e : (i + suc n) * 3 ≡ (suc i + n) * 3 = omega arith in
-    let f : suc i * 3 ≡ suc (suc (suc (i * 3))) = omega arith in
-    let r : words (tokensFrom ws (suc i) n) ++ drop ((i + suc n) * 3) ws ≡ drop (suc (suc (suc (i * 3)))) ws =
+    let e : (i + suc n) * wordsPerSlot ≡ (suc i + n) * wordsPerSlot = omega arith in
+    let f : suc i * wordsPerSlot ≡ suc (suc (suc (i * wordsPerSlot))) = omega arith in
+    let r : words (tokensFrom ws (suc i) n) ++ drop ((i + suc n) * wordsPerSlot) ws ≡ drop (suc (suc (suc (i * wordsPerSlot)))) ws =
     ap (λ (m : ℕ). words (tokensFrom ws (suc i) n) ++ drop m ws) e ∙ whole-from n (suc i) ws (omega arith) ∙ ap (λ (m : ℕ). drop m ws) f in
-    let p : i * 3 + 1 ≡ suc (i * 3) = omega arith in
-    let q : i * 3 + 2 ≡ suc (suc (i * 3)) = omega arith in
-    rw (r, p, q, drop-cons ws (i * 3) 0 (omega arith), drop-cons ws (suc (i * 3)) 0 (omega arith), drop-cons ws (suc (suc (i * 3))) 0 (omega arith))
+    let p : i * wordsPerSlot + 1 ≡ suc (i * wordsPerSlot) = omega arith in
+    let q : i * wordsPerSlot + 2 ≡ suc (suc (i * wordsPerSlot)) = omega arith in
+    rw (r, p, q, drop-cons ws (i * wordsPerSlot) 0 (omega arith), drop-cons ws (suc (i * wordsPerSlot)) 0 (omega arith), drop-cons ws (suc (suc (i * wordsPerSlot))) 0 (omega arith))
 
 pub laid-tokens : (n : ℕ) (ws : List ℕ) → n ≤ room ws → laid (tokensIn ws n) ws ≡ ws
 unfolding laid
 laid-tokens n ws h =
-    let e : length (tokensIn ws n) * 3 ≡ (0 + n) * 3 = omega (arith, length-tokens ws 0 n) in
+    let e : length (tokensIn ws n) * wordsPerSlot ≡ (0 + n) * wordsPerSlot = omega (arith, length-tokens ws 0 n) in
     ap (λ (m : ℕ). words (tokensIn ws n) ++ drop m ws) e ∙ whole-from n 0 ws (omega arith)
 
 pub left-laid : {n : ℕ} {before after : List ℕ} {ts : List Slot} → n ≤ room before → Left n before after ts → after ≡ laid ts before
 unfolding laid
 left-laid {n} {before} {after} {ts} h l =
     let s : length ts ≡ n = sym (ap length (l .tokens)) ∙ length-tokens after 0 n in
-    let e : length (tokensIn after n) * 3 ≡ n * 3 = omega (arith, length-tokens after 0 n) in
+    let e : length (tokensIn after n) * wordsPerSlot ≡ n * wordsPerSlot = omega (arith, length-tokens after 0 n) in
     sym (laid-tokens n after (omega (arith, l .long)))
     ∙ ap (λ (m : ℕ). words (tokensIn after n) ++ drop m after) e
     ∙ ap (λ (r : List ℕ). words (tokensIn after n) ++ r) (l .rest)
-    ∙ ap (λ (us : List Slot). words us ++ drop (n * 3) before) (l .tokens)
-    ∙ ap (λ (m : ℕ). words ts ++ drop (m * 3) before) (sym s)
+    ∙ ap (λ (us : List Slot). words us ++ drop (n * wordsPerSlot) before) (l .tokens)
+    ∙ ap (λ (m : ℕ). words ts ++ drop (m * wordsPerSlot) before) (sym s)
 
 -- ---- laying
-pub length-words : (ts : List Slot) → length (words ts) ≡ length ts * 3
+pub length-words : (ts : List Slot) → length (words ts) ≡ length ts * wordsPerSlot
 unfolding words
 length-words [] = refl
 length-words (t ∷ ts) = omega (arith, length-words ts)
@@ -178,14 +179,14 @@ words-more (u ∷ ts) t = ap (λ (r : List ℕ). u .kind ∷ u .first ∷ u .sec
 pub laid-more : (ts : List Slot) (t : Slot) (ws : List ℕ) → length ts < room ws → stored (laid ts ws) (length ts) t ≡ laid (ts ++ (t ∷ [])) ws
 unfolding laid stored
 laid-more ts t ws h =
-    let n : ℕ = length ts * 3 in
+    let n : ℕ = length ts * wordsPerSlot in
     let w : List ℕ = words ts in
     let three : List ℕ = t .kind ∷ t .first ∷ t .second ∷ [] in
     let l : length w ≡ n = length-words ts in
-    let fits : n + 3 ≤ length (w ++ drop n ws) = simp (length-append, length-drop) (omega (arith, length-words ts)) in
-    let m : length (ts ++ (t ∷ [])) * 3 ≡ n + 3 = omega (arith, length-append ts (t ∷ [])) in
+    let fits : n + wordsPerSlot ≤ length (w ++ drop n ws) = simp (length-append, length-drop) (omega (arith, length-words ts)) in
+    let m : length (ts ++ (t ∷ [])) * wordsPerSlot ≡ n + wordsPerSlot = omega (arith, length-append ts (t ∷ [])) in
     rw (add-one, add-two) (sets-eq three (w ++ drop n ws) n fits)
-    ∙ ap (λ (x : List ℕ). x ++ three ++ drop (n + 3) (w ++ drop n ws)) (take-at w (drop n ws) n l)
-    ∙ ap (λ (x : List ℕ). w ++ three ++ x) (ap (λ (k : ℕ). drop (k + 3) (w ++ drop n ws)) (sym l) ∙ drop-append-add w (drop n ws) 3 ∙ drop-drop 3 n ws)
-    ∙ ap (λ (x : List ℕ). x ++ drop (n + 3) ws) (sym (words-more ts t))
+    ∙ ap (λ (x : List ℕ). x ++ three ++ drop (n + wordsPerSlot) (w ++ drop n ws)) (take-at w (drop n ws) n l)
+    ∙ ap (λ (x : List ℕ). w ++ three ++ x) (ap (λ (k : ℕ). drop (k + wordsPerSlot) (w ++ drop n ws)) (sym l) ∙ drop-append-add w (drop n ws) wordsPerSlot ∙ drop-drop wordsPerSlot n ws)
+    ∙ ap (λ (x : List ℕ). x ++ drop (n + wordsPerSlot) ws) (sym (words-more ts t))
     ∙ ap (λ (k : ℕ). words (ts ++ (t ∷ [])) ++ drop k ws) (sym m)

@@ -29,9 +29,9 @@ pub fn check_text(text: &[u8]) -> Checked
     }
 }
 
-// 4 BadCount, then 5 BadToken.
-pub fn check_list(slots: &[u32], count: usize) -> Checked
-    ensures { λ r. ⌜ checked r ≡ (checkCount (now (slots .entry)) count then checkForm (tokensIn (now (slots .entry)) count)) ⌝ }
+// 4 BadCount.
+pub fn check_count(slots: &[u32], count: usize) -> Checked
+    ensures { λ r. ⌜ checked r ≡ checkCount (now (slots .entry)) count ⌝ }
 {
     let whole = whole_slots(slots);
     if LIMIT < count {
@@ -39,6 +39,17 @@ pub fn check_list(slots: &[u32], count: usize) -> Checked
     }
     if whole < count {
         return Checked::Refused(Refusal::BadCount(whole));
+    }
+    Checked::Fine
+}
+
+// 4 BadCount, then 5 BadToken.
+pub fn check_list(slots: &[u32], count: usize) -> Checked
+    ensures { λ r. ⌜ checked r ≡ (checkCount (now (slots .entry)) count then checkForm (tokensIn (now (slots .entry)) count)) ⌝ }
+{
+    let of_count = check_count(slots, count);
+    if let Checked::Refused(why) = of_count {
+        return Checked::Refused(why);
     }
     let bad = first_malformed(slots, count);
     if bad.0 < count {

@@ -1,5 +1,5 @@
-// Token slots: three words a token in a lent buffer, which has length / 3 whole slots. Words left over are never touched.
-// Only this file knows that a slot is three words.
+// Token slots: three words a token, from the front of a lent buffer. Words left over behind the whole slots are never touched.
+// Only this file knows how many words a slot is; which word is which, only `slot_at` and `put`.
 use crate::place::Place;
 ghost use mathlib.Core.Path.{_≡_};
 ghost use Prim.Native.Nat.{_<_};

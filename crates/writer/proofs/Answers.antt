@@ -1,7 +1,7 @@
 -- The cases of the writer's answer.
 -- cuts-found, cuts-none   checkCuts
 -- out-short, out-fits     checkOut
--- refused-text, refused-list, after-list   the checks of the text and of the list, in their order
+-- refused-text, refused-count, refused-list, after-list   the checks of the text, of the count and of the list, in their order
 -- refuses                 a refusal leaves the buffer
 -- writes                  done: the text lies over the front
 -- Assumes nothing.
@@ -14,9 +14,9 @@ use Rattle.tokens.specs.declared.slot.Slot.{Slot}
 use Rattle.tokens.specs.declared.refusal.Refusal.{Refusal}
 use Rattle.tokens.specs.Answers.{Answer, done, refusal, cutChar, noRoomOut}
 use Rattle.tokens.specs.Checks.{_then_, fine, checkText, checkCount, checkForm, afterwards}
-use Rattle.tokens.proofs.Checking.{then-assoc, refusal-then, refusal-after}
+use Rattle.tokens.proofs.Checking.{form-fine, then-assoc, refusal-then, refusal-after}
 use Rattle.tokens.specs.Slots.{tokensIn}
-use Rattle.tokens.specs.Formed.{firstPlace}
+use Rattle.tokens.specs.Formed.{malformed, firstPlace}
 use Rattle.writer.specs.Written.{written, cuts, onto}
 use Rattle.writer.specs.Promise.{checkCuts, checkOut, listAnswer, writeAnswer, Writes}
 use Rattle.writer.specs.declared.Wrote.the-variants.{Done, Refused}
@@ -40,25 +40,36 @@ module _ (need room : ℕ) where
   out-fits h = simp (le-ltb room need h)
 
 module _ (text ws : List ℕ) (n room : ℕ) where
-  abbrev rest : Answer
-  rest = checkCuts text (tokensIn ws n) then checkOut (length (written text (tokensIn ws n))) room
+  abbrev tokens : List Slot
+  tokens = tokensIn ws n
+
+  abbrev out : Answer
+  out = checkOut (length (written text tokens)) room
 
   pub refused-text : (r : Refusal) → refusal r ≡ checkText text → refusal r ≡ writeAnswer text ws n room
-  refused-text r e = sym (refusal-then r _) ∙ ap (λ (a : Answer). a then checkCount ws n then listAnswer text (tokensIn ws n) room) e
+  refused-text r e = sym (refusal-then r _) ∙ ap (λ (a : Answer). a then checkCount ws n then listAnswer text tokens room) e
 
   module _ (valid : fine ≡ checkText text) where
-    -- the text passed: the list is checked
-    after-text : (checkCount ws n then checkForm (tokensIn ws n)) then rest ≡ writeAnswer text ws n room
-    after-text =
-        then-assoc (checkCount ws n) (checkForm (tokensIn ws n)) rest
-        ∙ ap (λ (a : Answer). a then checkCount ws n then listAnswer text (tokensIn ws n) room) valid
+    -- the text passed: the count is checked
+    after-text : (checkCount ws n then listAnswer text tokens room) ≡ writeAnswer text ws n room
+    after-text = ap (λ (a : Answer). a then checkCount ws n then listAnswer text tokens room) valid
 
-    pub refused-list : (r : Refusal) → refusal r ≡ (checkCount ws n then checkForm (tokensIn ws n)) → refusal r ≡ writeAnswer text ws n room
-    refused-list r e = sym (refusal-then r rest) ∙ ap (λ (a : Answer). a then rest) e ∙ after-text
+    pub refused-count : (r : Refusal) → refusal r ≡ checkCount ws n → refusal r ≡ writeAnswer text ws n room
+    refused-count r e = sym (refusal-then r (listAnswer text tokens room)) ∙ ap (λ (a : Answer). a then listAnswer text tokens room) e ∙ after-text
 
-    module _ (formed : fine ≡ (checkCount ws n then checkForm (tokensIn ws n))) where
-      pub after-list : rest ≡ writeAnswer text ws n room
-      after-list = ap (λ (a : Answer). a then rest) formed ∙ after-text
+    module _ (counted : fine ≡ checkCount ws n) where
+      -- the count passed: the list is checked
+      after-count : listAnswer text tokens room ≡ writeAnswer text ws n room
+      after-count = ap (λ (a : Answer). a then listAnswer text tokens room) counted ∙ after-text
+
+      pub refused-list : (r : Refusal) → refusal r ≡ (checkForm tokens then checkCuts text tokens) → refusal r ≡ writeAnswer text ws n room
+      refused-list r e =
+          sym (refusal-then r out) ∙ ap (λ (a : Answer). a then out) e ∙ then-assoc (checkForm tokens) (checkCuts text tokens) out ∙ after-count
+
+      pub after-list : length tokens ≤ firstPlace malformed tokens → length tokens ≤ firstPlace (cuts text) tokens → out ≡ writeAnswer text ws n room
+      after-list h g =
+          sym (ap (λ (a : Answer). a then checkCuts text tokens then out) (form-fine tokens h) ∙ ap (λ (a : Answer). a then out) (cuts-none text tokens g))
+          ∙ after-count
 
 module _ {text ws : List ℕ} {n : ℕ} {out : List ℕ} where
   pub refuses : (r : Refusal) → refusal r ≡ writeAnswer text ws n (length out) → Writes text ws n out (Refused r) out

@@ -1,8 +1,7 @@
 -- The text of a token by its kind: a premise for each test, which `omega arith` finds at a need.
 -- quoted-in, quoted-low, quoted-high   isQuoted by the ranges of the kinds
 -- text-quoted, -charset, -other, -slice, -unknown, -fixed   tokenText by the kind
--- quote-one, charset-one   a quote and the mark of a charset are one byte
--- len-quoted, -charset, -unknown   the length of a token's text by its kind
+-- len-unknown       the length of an Unknown's text
 -- below-or          one number is below another, or not
 -- content-small, token-small   how long a slice and a token's text can be
 -- formed-scalar     a well-formed Unknown holds at most U+10FFFF
@@ -76,27 +75,6 @@ module _ (text : List ℕ) (t : Slot) where
   text-fixed c o n (inr h) = simp (quoted-high (t .kind) (omega arith), carries-high (t .kind) h, ne-eqb (t .kind) kind.Unknown n)
 
 -- ---- how long
-pub quote-one : (k : ℕ) → kind.Backticked ≤ k → k ≤ kind.SingleQuoted → length (textOf k) ≡ 1
-quote-one k h g = go (le-or k kind.Backticked) (le-or k kind.DoubleQuoted)
-  where
-    le-or : (a b : ℕ) → (a ≤ b) ⊎ (b < a)
-    le-or a b = by (ltb b a) refl
-      where
-        by : (x : Bool) → ltb b a ≡ x → (a ≤ b) ⊎ (b < a)
-        by true e = inr (ltb-true b a e)
-        by false e = inl (ltb-false b a e)
-
-    at : (n : ℕ) → k ≡ n → length (textOf n) ≡ 1 → length (textOf k) ≡ 1
-    at n e q = ap (λ (m : ℕ). length (textOf m)) e ∙ q
-
-    go : (k ≤ kind.Backticked) ⊎ (kind.Backticked < k) → (k ≤ kind.DoubleQuoted) ⊎ (kind.DoubleQuoted < k) → length (textOf k) ≡ 1
-    go (inl x) y = at kind.Backticked (omega arith) (unfold textOf texts in refl)
-    go (inr x) (inl y) = at kind.DoubleQuoted (omega arith) (unfold textOf texts in refl)
-    go (inr x) (inr y) = at kind.SingleQuoted (omega arith) (unfold textOf texts in refl)
-
-pub charset-one : (k : ℕ) → k ≡ kind.Charset → length (textOf k) ≡ 1
-charset-one k e = ap (λ (m : ℕ). length (textOf m)) e ∙ (unfold textOf texts in refl)
-
 pub below-or : (a b : ℕ) → (a < b) ⊎ (b ≤ a)
 below-or a b = go (ltb a b) refl
   where
@@ -137,14 +115,7 @@ token-small text t = go (kind.isQuoted (t .kind)) (carriesOffsets (t .kind)) (eq
     go false false true = omega (arith, encode-small (t .first))
     go false false false = omega (arith, mark)
 
--- ---- the length of a token's text by its kind
 module _ (text : List ℕ) (t : Slot) where
-  pub len-quoted : kind.Backticked ≤ t .kind → t .kind ≤ kind.SingleQuoted → length (sliceOf text t) + 2 ≡ length (tokenText text t)
-  len-quoted h g = rw (text-quoted text t h g) (simp length-append (omega (arith, quote-one (t .kind) h g)))
-
-  pub len-charset : t .kind ≡ kind.Charset → length (sliceOf text t) + 1 ≡ length (tokenText text t)
-  len-charset e = rw (text-charset text t e) (simp length-append (omega (arith, charset-one (t .kind) e)))
-
   pub len-unknown : t .kind ≡ kind.Unknown → width (t .first) ≡ length (tokenText text t)
   len-unknown e = rw (text-unknown text t e) (width-encode (t .first))
 

@@ -4,3 +4,4 @@ pub mod Lists
 pub mod Cutting
 pub mod Answers
 pub mod Unique
+pub mod Surveying

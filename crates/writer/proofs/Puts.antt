@@ -1,18 +1,20 @@
 -- Copies, one after the other.
 -- put-as      the same bytes under another name
 -- put-none    nothing is copied
+-- put-one     one byte is stored
 -- put-then    one copy behind another
 -- put-onto    a copy behind a text that lies over the front
 -- three-length   the length of three parts
 -- put-long    a copy keeps the buffer's length
 -- Assumes nothing.
-use mathlib.Core.Path.{_≡_, ap, sym, _∙_}
-use mathlib.Core.List.{List, [], _++_, append-assoc, append-nil}
-use Prim.Native.Nat.{ℕ, zero, _+_, _-_, _≤_}
+use mathlib.Core.Path.{_≡_, refl, ap, sym, _∙_}
+use mathlib.Core.List.{List, [], _∷_, _++_, append-assoc, append-nil}
+use Prim.Native.Nat.{ℕ, zero, _+_, _-_, _≤_, _<_}
 use native.Mathlib.Nat.{add-assoc, add-zero}
+use native.Mathlib.Numerals.{add-one}
 use native.Mathlib.Omega.{arith}
-use lib.ListN.{length, take, drop, length-append, take-append-drop, length-take, length-drop}
-use lib.Seq.{take-append-seam, drop-append-add, drop-drop, length-take-le, take-at}
+use lib.ListN.{length, take, drop, set, length-append, take-append-drop, length-take, length-drop}
+use lib.Seq.{set-split, take-append-seam, drop-append-add, drop-drop, length-take-le, take-at}
 use Rattle.writer.specs.Written.{onto}
 use Rattle.writer.specs.Promise.{Put}
 
@@ -25,6 +27,12 @@ pub put-none : (out : List ℕ) (at : ℕ) → Put out at [] at out
 put-none out at = record {
   next = sym (add-zero at);
   left = sym (ap (λ (k : ℕ). take at out ++ [] ++ drop k out) (add-zero at) ∙ ap (λ (l : List ℕ). l ++ drop at out) (append-nil (take at out)) ∙ take-append-drop at out);
+}
+
+pub put-one : (out : List ℕ) (at b : ℕ) → at < length out → Put out at (b ∷ []) (at + 1) (set out at b)
+put-one out at b h = record {
+  next = refl;
+  left = set-split out at b h ∙ ap (λ (k : ℕ). take at out ++ b ∷ drop k out) (sym (add-one at)) ∙ sym (append-assoc (take at out) (b ∷ []) (drop (at + 1) out));
 }
 
 -- one after the other

@@ -1,8 +1,11 @@
 // Copies into the lent output: what the Rust's growing `out` does by `push` and `push_str`.
-use crate::marks::one_byte;
+use crate::marks::mark;
+use tokens::kind;
+ghost use mathlib.Core.List.{[], _∷_};
 ghost use Prim.Native.Nat.{_+_, _≤_, _<_};
 ghost use lib.ListN.{length};
 ghost use Rattle.chars.specs.Utf8.{encode};
+ghost use Rattle.tokens.specs.Kinds as kinds;
 ghost use Rattle.tokens.specs.Texts.{textOf};
 ghost use Rattle.writer.specs.Promise.{Put};
 
@@ -19,14 +22,34 @@ pub fn put(out: &mut [u8], at: usize, src: &[u8]) -> usize
     at + j
 }
 
-// The fixed text of a kind.
+// One byte.
+pub fn put_byte(out: &mut [u8], at: usize, byte: u8) -> usize
+    requires { ⌜ at < length (now out) ⌝ }
+    ensures { λ r. ⌜ Put (now (out .entry)) at (byte ∷ []) r (now (out .exit)) ⌝ }
+{
+    out[at] = byte;
+    at + 1
+}
+
+// A mark of one byte, or nothing for None.
+pub fn put_mark(out: &mut [u8], at: usize, kind: u32) -> usize
+    requires { ⌜ (kind < kinds.Ellipsis) × (at + length (textOf kind) ≤ length (now out)) ⌝ }
+    ensures { λ r. ⌜ Put (now (out .entry)) at (textOf kind) r (now (out .exit)) ⌝ }
+{
+    let byte = mark(kind);
+    if byte == 0 {
+        return at;
+    }
+    put_byte(out, at, byte)
+}
+
+// The fixed text of a kind. Equal is the one frequent text of one byte that is no mark.
 pub fn put_fixed(out: &mut [u8], at: usize, kind: u32) -> usize
     requires { ⌜ at + length (textOf kind) ≤ length (now out) ⌝ }
     ensures { λ r. ⌜ Put (now (out .entry)) at (textOf kind) r (now (out .exit)) ⌝ }
 {
-    let byte = one_byte(kind);
-    if 0 < byte {
-        return put(out, at, &[byte]);
+    if kind == kind::EQUAL {
+        return put_byte(out, at, b'=');
     }
     let fixed = tokens::texts::fixed_text(kind);
     let bytes = fixed.bytes;

@@ -1,14 +1,16 @@
-// The fixed texts of one byte, which token lists are full of. A dense `match` that answers a number is a table for the compiler, where
+// The texts of one byte, which token lists are full of. A dense `match` that answers a number is a table for the compiler, where
 // `fixed_text` answers through memory.
 use tokens::kind;
 ghost use mathlib.Core.List.{[], _∷_};
 ghost use mathlib.Core.Path.{_≡_};
-ghost use Prim.Native.Nat.{_<_};
+ghost use Prim.Native.Nat.{_<_, _≤_};
+ghost use Rattle.tokens.specs.Kinds as kinds;
 ghost use Rattle.tokens.specs.Texts.{textOf};
 
-// Space to Placeholder: by itself, so that the compiler's table has no gaps.
-fn mark(kind: u32) -> u8
-    ensures { λ r. ⌜ (0 < r → textOf kind ≡ r ∷ []) ⌝ }
+// Space to Placeholder, by themselves, so that the compiler's table has no gaps; 0 for None.
+pub fn mark(kind: u32) -> u8
+    requires { ⌜ kind < kinds.Ellipsis ⌝ }
+    ensures { λ r. ⌜ (0 < r → textOf kind ≡ r ∷ []) × (r ≡ 0 → textOf kind ≡ []) ⌝ }
 {
     match kind {
         kind::SPACE => b' ',
@@ -27,18 +29,14 @@ fn mark(kind: u32) -> u8
     }
 }
 
-// The one byte that is a kind's text; 0 for every kind that `fixed_text` is to be asked about.
-pub fn one_byte(kind: u32) -> u8
-    ensures { λ r. ⌜ (0 < r → textOf kind ≡ r ∷ []) ⌝ }
+// The quote before and after a slice.
+pub fn quote(kind: u32) -> u8
+    requires { ⌜ (kinds.Backticked ≤ kind) × (kind ≤ kinds.SingleQuoted) ⌝ }
+    ensures { λ r. ⌜ textOf kind ≡ r ∷ [] ⌝ }
 {
-    if kind < kind::ELLIPSIS {
-        return mark(kind);
-    }
     match kind {
-        kind::EQUAL => b'=',
         kind::BACKTICKED => b'`',
         kind::DOUBLE_QUOTED => b'"',
-        kind::SINGLE_QUOTED => b'\'',
-        _ => 0,
+        _ => b'\'',
     }
 }

@@ -8,7 +8,7 @@ use lib.ListN.{length}
 use Rattle.chars.specs.declared.offset.Offset.{Offset}
 use Rattle.tokens.specs.Answers.{limit}
 use Rattle.tokens.specs.declared.slot.Slot.{Slot}
-use Rattle.lexer.specs.Ways.{pinned}
+use Rattle.scans.specs.Ways.{pinned}
 use Rattle.lexer.specs.Lexes.{Lexes}
 use Rattle.lexer.specs.declared.lex.Lexed.{Lexed}
 use Rattle.lexer.proofs.Turns.{tokens-few}

@@ -6,6 +6,7 @@ use borrow.Author.Needs.{needs}
 use borrow.Author.Tests.{not-false}
 use lib.ListN.{length}
 use Rattle.tokens.specs.declared.slot.Slot.{Slot}
+use Rattle.tokens.specs.Kinds as kind
 use Rattle.tokens.specs.Slots.{bare, tokensFrom, tokensIn}
 use Rattle.tokens.specs.Formed.{malformed, wellFormed}
 use Rattle.tokens.proofs.Places.{place-le, place-none}
@@ -36,8 +37,8 @@ put-token-requires c κs =
     let i = head .loop .i in
     let ts = tokensIn (x .slots .now) (x .count) in
     let here = c .slot-at .ensures in
-    let all = place-none malformed ts (bare 0) (omega (arith, place-le malformed ts, length-tokens (x .slots .now) 0 (x .count))) i (omega (arith, length-tokens (x .slots .now) 0 (x .count))) in (
-      ap wellFormed (here ∙ sym (getD-tokens (x .slots .now) (x .count) i (bare 0) (omega arith))) ∙ not-false _ all,
+    let all = place-none malformed ts (bare kind.None) (omega (arith, place-le malformed ts, length-tokens (x .slots .now) 0 (x .count))) i (omega (arith, length-tokens (x .slots .now) 0 (x .count))) in (
+      ap wellFormed (here ∙ sym (getD-tokens (x .slots .now) (x .count) i (bare kind.None) (omega arith))) ∙ not-false _ all,
       omega (arith, ap (λ (t : Slot). length (tokenText (x .text .now) t)) here, written-room (x .text .now) (x .slots .now) i (x .count) (omega arith)),
     )
 

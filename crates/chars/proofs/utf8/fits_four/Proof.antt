@@ -1,20 +1,14 @@
--- `chars::utf8::fits_four` meets its contract: the arms are the cases of the definition. Assumes nothing.
-use borrow.Author.Tests.{ne-eqb}
-use Rattle.chars.specs.Steps.{fitsFour}
+-- `chars::utf8::fits_four` meets its contract: the barred lead byte is the one that does not fit. Assumes nothing.
+use borrow.Author.Needs.{needs}
+use Rattle.chars.proofs.Blocks.{four-fits}
 use Rattle.chars.proofs.utf8.fits_four.Statement.{statement}
 use Rattle.chars.proofs.utf8.fits_four.Tie as tie
 
+barred-four-requires : tie.Need-barred-four-requires
+barred-four-requires c κs = search needs
+
 returns : tie.Need-returns
-unfolding fitsFour
-returns c = rw (c .match .keys1)
-
-returns-2 : tie.Need-returns-2
-unfolding fitsFour
-returns-2 c = rw (c .match .keys2)
-
-returns-3 : tie.Need-returns-3
-unfolding fitsFour
-returns-3 c = simp (ne-eqb (c .before .args .a) 0xF0 (c .match .rest .0 .1), ne-eqb (c .before .args .a) 0xF4 (c .match .rest .1))
+returns c = rw (c .barred-four .ensures) (four-fits (c .before .args .a) (c .before .args .b))
 
 pub fits-four-spec : {M : Type 1} → statement M
-fits-four-spec = tie.close (tie.spec returns returns-2 returns-3)
+fits-four-spec = tie.close (tie.spec barred-four-requires returns)

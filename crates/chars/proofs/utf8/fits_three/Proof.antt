@@ -1,20 +1,14 @@
--- `chars::utf8::fits_three` meets its contract: the arms are the cases of the definition. Assumes nothing.
-use borrow.Author.Tests.{ne-eqb}
-use Rattle.chars.specs.Steps.{fitsThree}
+-- `chars::utf8::fits_three` meets its contract: the barred lead byte is the one that does not fit. Assumes nothing.
+use borrow.Author.Needs.{needs}
+use Rattle.chars.proofs.Blocks.{three-fits}
 use Rattle.chars.proofs.utf8.fits_three.Statement.{statement}
 use Rattle.chars.proofs.utf8.fits_three.Tie as tie
 
+barred-three-requires : tie.Need-barred-three-requires
+barred-three-requires c κs = search needs
+
 returns : tie.Need-returns
-unfolding fitsThree
-returns c = rw (c .match .keys1)
-
-returns-2 : tie.Need-returns-2
-unfolding fitsThree
-returns-2 c = rw (c .match .keys2)
-
-returns-3 : tie.Need-returns-3
-unfolding fitsThree
-returns-3 c = simp (ne-eqb (c .before .args .a) 0xE0 (c .match .rest .0 .1), ne-eqb (c .before .args .a) 0xED (c .match .rest .1))
+returns c = rw (c .barred-three .ensures) (three-fits (c .before .args .a) (c .before .args .b))
 
 pub fits-three-spec : {M : Type 1} → statement M
-fits-three-spec = tie.close (tie.spec returns returns-2 returns-3)
+fits-three-spec = tie.close (tie.spec barred-three-requires returns)

@@ -12,7 +12,7 @@ use Rattle.tokens.proofs.Storing.{laid-none, length-laid}
 use Rattle.tokens.specs.declared.slot.Slot.{Slot}
 use mathlib.Core.List.{List}
 use Rattle.lexer.specs.declared.lex.Walked.{Walked}
-use Rattle.lexer.specs.Ways.{pinned}
+use Rattle.scans.specs.Ways.{pinned}
 use Rattle.lexer.specs.Read.{reading, tokens}
 use Rattle.lexer.proofs.Turns.{tokens-few}
 use Rattle.lexer.proofs.Answering.{valid-refused, valid-done}

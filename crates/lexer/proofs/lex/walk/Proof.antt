@@ -5,8 +5,8 @@ use borrow.Author.Needs.{needs}
 use native.Mathlib.Omega.{arith}
 use lib.ListN.{length}
 use denote.Ref.{now}
-use Rattle.lexer.specs.Ways.{pinned}
-use Rattle.lexer.specs.Read.{Readable}
+use Rattle.scans.specs.Ways.{pinned}
+use Rattle.scans.specs.Whole.{Readable}
 use Rattle.lexer.proofs.Turns.{Turn, turn, turn-stop, go-end, Walking, walking-start, walking-more, kept-length, all-read, stop-here, all-laid}
 use Rattle.lexer.proofs.lex.walk.Statement.{statement}
 use Rattle.lexer.proofs.lex.walk.Tie as tie

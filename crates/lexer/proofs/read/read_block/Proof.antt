@@ -1,7 +1,7 @@
 -- `lexer::read::read_block` meets its contract. Assumes nothing.
 use native.Mathlib.Omega.{arith}
 use denote.Ref.{now}
-use Rattle.lexer.specs.Scans.{blockLen}
+use Rattle.scans.specs.Scans.{blockLen}
 use Rattle.lexer.proofs.Steps.{after-whole, at-small, end-small, block-read}
 use Rattle.lexer.proofs.read.read_block.Statement.{statement}
 use Rattle.lexer.proofs.read.read_block.Tie as tie

@@ -2,9 +2,9 @@
 use borrow.Author.Needs.{needs}
 use native.Mathlib.Omega.{arith}
 use denote.Ref.{now}
-use Rattle.lexer.specs.Ways.{pinned}
-use Rattle.lexer.specs.Scans.{span, goesOn}
-use Rattle.lexer.specs.declared.goes.Stop.the-variants.{Charset}
+use Rattle.scans.specs.Ways.{pinned}
+use Rattle.scans.specs.Scans.{span, goesOn}
+use Rattle.scans.specs.declared.goes.Stop.the-variants.{Charset}
 use Rattle.lexer.proofs.Steps.{after-small, end-small, charset-read}
 use Rattle.lexer.proofs.read.read_charset.Statement.{statement}
 use Rattle.lexer.proofs.read.read_charset.Tie as tie

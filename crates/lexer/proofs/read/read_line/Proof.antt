@@ -1,7 +1,7 @@
 -- `lexer::read::read_line` meets its contract. Assumes nothing.
 use native.Mathlib.Omega.{arith}
 use denote.Ref.{now}
-use Rattle.lexer.specs.Scans.{span, inLine}
+use Rattle.scans.specs.Scans.{span, inLine}
 use Rattle.lexer.proofs.Steps.{after-whole, at-small, end-small, line-read}
 use Rattle.lexer.proofs.read.read_line.Statement.{statement}
 use Rattle.lexer.proofs.read.read_line.Tie as tie

@@ -2,9 +2,9 @@
 use borrow.Author.Needs.{needs}
 use native.Mathlib.Omega.{arith}
 use denote.Ref.{now}
-use Rattle.lexer.specs.Ways.{pinned}
-use Rattle.lexer.specs.Scans.{span, goesOn}
-use Rattle.lexer.specs.declared.goes.Stop.the-variants.{Numerics}
+use Rattle.scans.specs.Ways.{pinned}
+use Rattle.scans.specs.Scans.{span, goesOn}
+use Rattle.scans.specs.declared.goes.Stop.the-variants.{Numerics}
 use Rattle.lexer.proofs.Steps.{at-small, end-small, numbered-read}
 use Rattle.lexer.proofs.read.read_numbered.Statement.{statement}
 use Rattle.lexer.proofs.read.read_numbered.Tie as tie

@@ -10,10 +10,11 @@ use denote.Ref.{now}
 use Rattle.chars.specs.Utf8.{chars}
 use Rattle.chars.proofs.Stepping.{Stepped}
 use Rattle.lexer.specs.declared.rule.Rule.{Rule}
-use Rattle.lexer.specs.Ways.{pinned}
+use Rattle.scans.specs.Ways.{pinned}
 use Rattle.lexer.specs.Rules.{ruleOf, byRule, readOne, startsWord, startsNumber}
-use Rattle.lexer.specs.Read.{stepOf, starBefore, readBy, Ascii, Leads}
-use Rattle.lexer.proofs.Characters.{Here, stands, readable-here, low-lead}
+use Rattle.scans.specs.Whole.{starBefore}
+use Rattle.lexer.specs.Read.{stepOf, readBy, Ascii, Leads}
+use Rattle.scans.proofs.Characters.{Here, stands, readable-here, low-lead}
 use Rattle.lexer.proofs.Choice.{Tells, rule-tells}
 use Rattle.lexer.proofs.Steps.{read-at, single-read}
 use Rattle.lexer.proofs.read.read_one.Statement.{statement}

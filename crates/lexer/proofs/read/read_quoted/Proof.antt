@@ -2,7 +2,7 @@
 use native.Mathlib.Omega.{arith}
 use denote.Ref.{now}
 use lib.ListN.{getD}
-use Rattle.lexer.specs.Scans.{quoteLen}
+use Rattle.scans.specs.Scans.{quoteLen}
 use Rattle.lexer.proofs.Steps.{after-whole, after-small, end-small, quoted-closed, quoted-open}
 use Rattle.lexer.proofs.read.read_quoted.Statement.{statement}
 use Rattle.lexer.proofs.read.read_quoted.Tie as tie

@@ -2,7 +2,7 @@
 use borrow.Author.Needs.{needs}
 use native.Mathlib.Omega.{arith}
 use denote.Ref.{now}
-use Rattle.lexer.specs.Scans.{span, inRun}
+use Rattle.scans.specs.Scans.{span, inRun}
 use Rattle.lexer.proofs.Steps.{after-whole, end-in, end-after, run-known, run-halt}
 use Rattle.lexer.proofs.read.read_run.Statement.{statement}
 use Rattle.lexer.proofs.read.read_run.Tie as tie

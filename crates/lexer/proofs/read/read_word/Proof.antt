@@ -1,9 +1,9 @@
 -- `lexer::read::read_word` meets its contract. Assumes nothing.
 use borrow.Author.Needs.{needs}
 use denote.Ref.{now}
-use Rattle.lexer.specs.declared.goes.Stop.the-variants.{Word}
-use Rattle.lexer.specs.Ways.{pinned}
-use Rattle.lexer.specs.Scans.{span, goesOn}
+use Rattle.scans.specs.declared.goes.Stop.the-variants.{Word}
+use Rattle.scans.specs.Ways.{pinned}
+use Rattle.scans.specs.Scans.{span, goesOn}
 use Rattle.lexer.proofs.Steps.{here-small, far-in, far-after, far-small, word-known, word-other}
 use Rattle.lexer.proofs.read.read_word.Statement.{statement}
 use Rattle.lexer.proofs.read.read_word.Tie as tie

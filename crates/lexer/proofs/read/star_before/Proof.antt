@@ -7,7 +7,7 @@ use mathlib.Core.List.{List}
 use lib.Dec.{eqb}
 use lib.ListN.{getD}
 use denote.Ref.{now}
-use Rattle.lexer.specs.Read.{starBefore}
+use Rattle.scans.specs.Whole.{starBefore}
 use Rattle.lexer.proofs.read.star_before.Statement.{statement}
 use Rattle.lexer.proofs.read.star_before.Tie as tie
 

@@ -6,7 +6,7 @@ use Prim.Native.Nat.{ℕ, suc, _≤_, _<_}
 use lib.ListN.{drop}
 use denote.Ref.{now}
 use Rattle.chars.specs.Utf8.{chars}
-use Rattle.lexer.specs.Ways.{pinned}
+use Rattle.scans.specs.Ways.{pinned}
 use Rattle.lexer.specs.Rules.{others, ruleOf}
 use Rattle.lexer.proofs.Choice.{rule-late, rule-hash, rule-dash, rule-slash, number-digit, word-capital, word-small, unknown-ascii}
 use Rattle.lexer.proofs.rule.ascii_rule.Statement.{statement}

@@ -7,10 +7,10 @@ use Prim.Native.Nat.{_≤_}
 use lib.ListN.{getD, drop}
 use Rattle.chars.specs.Utf8.{chars}
 use Rattle.lexer.specs.declared.rule.Rule.the-variants.{Unknown}
-use Rattle.lexer.specs.Ways.{pinned}
+use Rattle.scans.specs.Ways.{pinned}
 use Rattle.lexer.specs.Rules.{others, ruleOf}
 use Rattle.lexer.specs.Read.{onChars}
-use Rattle.lexer.proofs.Characters.{Here, stands, readable-here, whole-ascii, ascii-here, lead-high}
+use Rattle.scans.proofs.Characters.{Here, stands, readable-here, whole-ascii, ascii-here, lead-high}
 use Rattle.lexer.proofs.Choice.{rule-wide}
 use Rattle.lexer.proofs.rule.rule_at.Statement.{statement}
 use Rattle.lexer.proofs.rule.rule_at.Tie as tie

@@ -1,0 +1,6 @@
+pub mod Characters
+pub mod Reaching
+pub mod Nones
+pub mod ByteScans
+pub mod Quotes
+pub mod Classes

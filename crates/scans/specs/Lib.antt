@@ -1,0 +1,4 @@
+pub mod Ways
+pub mod Scans
+pub mod Next
+pub mod Whole

@@ -1,0 +1,183 @@
+-- Looking a text up: a guess by its packed letters, confirmed by the row's letters, is the definition's search.
+-- equal-is, equal-self, equal-step   the comparison
+-- pack-step, getD-part               one letter of a text
+-- guess-row                          a guess names a row of the table
+-- lookup-is                          guess and confirmation are the search
+-- lookup-long                        a text longer than any row is not known
+-- Assumes nothing.
+use mathlib.Core.Path.{_≡_, refl, sym, ap, _∙_}
+use mathlib.Core.Bool.{Bool, true, false, cond, not, _&&_}
+use mathlib.Core.List.{List, [], _∷_, map}
+use Prim.Native.Nat.{ℕ, zero, suc, _+_, _*_, _%_, _^_, _≤_, _<_}
+use native.Mathlib.Numerals.{add-one}
+use native.Mathlib.Omega.{arith}
+use lib.Dec.{eqb, leb}
+use lib.ListN.{length, getD, take, drop, length-take, length-drop, length-map, drop-of-length-le}
+use lib.Seq.{drop-cons, getD-take, getD-drop}
+use borrow.Author.Tests.{eq-eqb, eqb-true, leb-true}
+use Rattle.chars.proofs.Bytes.{and-l, and-r}
+use Rattle.tokens.specs.Kinds as kind
+use Rattle.tokens.specs.Texts.{Row, textOf, texts}
+use Rattle.words.specs.declared.guess.Sort.{Sort}
+use Rattle.words.specs.declared.guess.Sort.the-variants.{Words, Runs, Zeros}
+use Rattle.words.specs.declared.guess.Guess.{Guess}
+use Rattle.words.specs.Known.{lower, equal, find, words, runs, zeros, rowsOf, letters, packed, guessIn, guessOf}
+use Rattle.chars.proofs.Scalars.{clash}
+
+-- ---- the comparison
+pub equal-is : (a b : List ℕ) → equal a b ≡ true → a ≡ b
+equal-is [] [] e = refl
+equal-is [] (y ∷ b) e = clash (cc)
+equal-is (x ∷ a) [] e = clash (cc)
+equal-is (x ∷ a) (y ∷ b) e =
+    let h : x ≡ y = eqb-true x y (and-l (eqb x y) (equal a b) e) in
+    let t : a ≡ b = equal-is a b (and-r (eqb x y) (equal a b) e) in
+    rw (h, t)
+
+pub equal-self : (a : List ℕ) → equal a a ≡ true
+equal-self [] = refl
+equal-self (x ∷ a) = rw (eq-eqb x x refl, equal-self a)
+
+pub equal-step : (a b : List ℕ) (m : ℕ) → m < length a → m < length b
+    → equal (drop m a) (drop m b) ≡ (eqb (getD a m 0) (getD b m 0) && equal (drop (m + 1) a) (drop (m + 1) b))
+equal-step a b m h k = rw (add-one, drop-cons a m 0 h, drop-cons b m 0 k)
+
+pub equal-done : (a b : List ℕ) (m : ℕ) → length a ≤ m → length b ≤ m → equal (drop m a) (drop m b) ≡ true
+equal-done a b m h k = rw (drop-of-length-le a h, drop-of-length-le b k)
+
+-- ---- a part of a text in lower case
+getD-map : (l : List ℕ) (m : ℕ) → m < length l → getD (map lower l) m 0 ≡ lower (getD l m 0)
+getD-map [] m h = absurd (omega arith)
+getD-map (x ∷ l) zero h = refl
+getD-map (x ∷ l) (suc m) h = getD-map l m (omega arith)
+
+module _ (t : List ℕ) (at n : ℕ) (h : at + n ≤ length t) where
+  abbrev pub part : List ℕ
+  part = map lower (take n (drop at t))
+
+  pub part-length : length part ≡ n
+  part-length = length-map (take n (drop at t)) lower ∙ simp (length-take, length-drop) (omega arith)
+
+  pub getD-part : (m : ℕ) → m < n → getD part m 0 ≡ lower (getD t (at + m) 0)
+  getD-part m k =
+      let l : m < length (take n (drop at t)) = simp (length-take, length-drop) (omega arith) in
+      getD-map (take n (drop at t)) m l ∙ ap lower (getD-take n (drop at t) m 0 k ∙ getD-drop at t m 0)
+
+  pub pack-step : (v m : ℕ) → m < n → packed v (drop m part) ≡ packed (v * 256 % 2 ^ 64 + lower (getD t (at + m) 0)) (drop (m + 1) part)
+  pack-step v m k = rw (add-one m, drop-cons part m 0 (omega (arith, part-length)), getD-part m k)
+
+  pub pack-done : (v m : ℕ) → n ≤ m → packed v (drop m part) ≡ v
+  pack-done v m k = let l : length part ≤ m = omega (arith, part-length) in rw (drop-of-length-le part l)
+
+-- ---- the tests of a table, passed by computation: each row's letters stand at its place, and no two rows pack alike
+abbrev placed : ℕ → List Row → Bool
+placed i [] = true
+placed i (r ∷ rs) = equal (take (length (r .text)) (drop (i * 9) letters)) (r .text) && placed (i + 1) rs
+
+abbrev apart : ℕ → List Row → Bool
+apart v [] = true
+apart v (r ∷ rs) = not (eqb v (packed 0 (r .text))) && apart v rs
+
+abbrev distinct : List Row → Bool
+distinct [] = true
+distinct (r ∷ rs) = apart (packed 0 (r .text)) rs && distinct rs
+
+abbrev short : List Row → Bool
+short [] = true
+short (r ∷ rs) = leb (length (r .text)) 9 && short rs
+
+-- no row has a text that packs to another number
+absent : (rs : List Row) (w : List ℕ) (v : ℕ) → apart v rs ≡ true → packed 0 w ≡ v → find rs w ≡ kind.None
+absent [] w v e p = refl
+absent (r ∷ rs) w v e p = go (equal w (r .text)) refl (absent rs w v (and-r (not (eqb v (packed 0 (r .text)))) (apart v rs) e) p)
+  where
+    go : (b : Bool) → equal w (r .text) ≡ b → find rs w ≡ kind.None → cond b (r .kind) (find rs w) ≡ kind.None
+    go true q ih =
+        let z : eqb v (packed 0 (r .text)) ≡ true = eq-eqb v (packed 0 (r .text)) (sym p ∙ ap (packed 0) (equal-is w (r .text) q)) in
+        clash (let y : not true ≡ true = rw z at (and-l (not (eqb v (packed 0 (r .text)))) (apart v rs) e) in cc)
+    go false q ih = ih
+
+-- what the code answers, of a text w and a guess
+abbrev pub confirmed : List ℕ → Guess → ℕ
+confirmed w g = cond (eqb (g .1) (length w)) (cond (equal w (take (length w) (drop (g .0 * 9) letters))) (g .2) kind.None) kind.None
+
+pub confirmed-at : (w : List ℕ) (g : Guess) (n : ℕ) → length w ≡ n → g .1 ≡ n
+    → confirmed w g ≡ cond (equal w (take n (drop (g .0 * 9) letters))) (g .2) kind.None
+confirmed-at w g n p q = rw (eq-eqb (g .1) (length w) (q ∙ sym p), p)
+
+-- the guess of a row
+abbrev guessed : ℕ → Row → Guess
+guessed i r = record { 0 = i; 1 = length (r .text); 2 = r .kind }
+
+cond-same : {A : Type 0} (b : Bool) (x : A) → cond b x x ≡ x
+cond-same true x = refl
+cond-same false x = refl
+
+search-is : (rs : List Row) (i : ℕ) (w : List ℕ) → placed i rs ≡ true → distinct rs ≡ true → find rs w ≡ confirmed w (guessIn i rs (packed 0 w))
+search-is [] i w p d = sym (rw (cond-same (equal w (take (length w) (drop (0 * 9) letters))) kind.None) (cond-same (eqb 0 (length w)) kind.None))
+search-is (r ∷ rs) i w p d =
+    go (eqb (packed 0 w) (packed 0 (r .text))) refl (equal w (r .text)) refl
+    (search-is rs (i + 1) w (and-r (equal (take (length (r .text)) (drop (i * 9) letters)) (r .text)) (placed (i + 1) rs) p) (and-r (apart (packed 0 (r .text)) rs) (distinct rs) d))
+  where
+    here : take (length (r .text)) (drop (i * 9) letters) ≡ r .text
+    here = equal-is _ (r .text) (and-l (equal (take (length (r .text)) (drop (i * 9) letters)) (r .text)) (placed (i + 1) rs) p)
+
+    match : w ≡ r .text → confirmed w (guessed i r) ≡ r .kind
+    match e = rw (e, eq-eqb (length (r .text)) (length (r .text)) refl, here, equal-self (r .text))
+
+    miss : equal w (r .text) ≡ false → confirmed w (guessed i r) ≡ kind.None
+    miss e = from (eqb (length (r .text)) (length w)) refl
+      where
+        from : (b : Bool) → eqb (length (r .text)) (length w) ≡ b
+            → cond b (cond (equal w (take (length w) (drop (i * 9) letters))) (r .kind) kind.None) kind.None ≡ kind.None
+        from true q = rw (← eqb-true (length (r .text)) (length w) q, here, e)
+        from false q = refl
+
+    go : (b : Bool) → eqb (packed 0 w) (packed 0 (r .text)) ≡ b → (x : Bool) → equal w (r .text) ≡ x
+        → find rs w ≡ confirmed w (guessIn (i + 1) rs (packed 0 w))
+        → cond x (r .kind) (find rs w) ≡ confirmed w (cond b (guessed i r) (guessIn (i + 1) rs (packed 0 w)))
+    go true q true y ih = sym (match (equal-is w (r .text) y))
+    go true q false y ih =
+        absent rs w (packed 0 (r .text)) (and-l (apart (packed 0 (r .text)) rs) (distinct rs) d) (eqb-true (packed 0 w) (packed 0 (r .text)) q)
+        ∙ sym (miss y)
+    go false q true y ih = clash (let z : false ≡ true = sym q ∙ eq-eqb (packed 0 w) (packed 0 (r .text)) (ap (packed 0) (equal-is w (r .text) y)) in cc)
+    go false q false y ih = ih
+
+too-long : (rs : List Row) (w : List ℕ) → short rs ≡ true → 9 < length w → find rs w ≡ kind.None
+too-long [] w e h = refl
+too-long (r ∷ rs) w e h = go (equal w (r .text)) refl (too-long rs w (and-r (leb (length (r .text)) 9) (short rs) e) h)
+  where
+    go : (b : Bool) → equal w (r .text) ≡ b → find rs w ≡ kind.None → cond b (r .kind) (find rs w) ≡ kind.None
+    go true q ih = absurd (omega (arith, ap length (equal-is w (r .text) q), leb-true (length (r .text)) 9 (and-l (leb (length (r .text)) 9) (short rs) e)))
+    go false q ih = ih
+
+-- ---- the three tables
+module _ (w : List ℕ) where
+  pub lookup-is : (sort : Sort) → find (rowsOf sort) w ≡ confirmed w (guessOf sort (packed 0 w))
+  lookup-is Words = unfold guessOf rowsOf in search-is words 0 w (unfold words runs zeros letters textOf texts in refl) (unfold words textOf texts in refl)
+  lookup-is Runs = unfold guessOf rowsOf in search-is runs 37 w (unfold words runs zeros letters textOf texts in refl) (unfold runs in refl)
+  lookup-is Zeros = unfold guessOf rowsOf in search-is zeros 54 w (unfold words runs zeros letters textOf texts in refl) (unfold zeros in refl)
+
+  pub lookup-long : (sort : Sort) → 9 < length w → find (rowsOf sort) w ≡ kind.None
+  lookup-long Words h = unfold rowsOf in too-long words w (unfold words textOf texts in refl) h
+  lookup-long Runs h = unfold rowsOf in too-long runs w (unfold runs in refl) h
+  lookup-long Zeros h = unfold rowsOf in too-long zeros w (unfold zeros in refl) h
+
+guess-in : (rs : List Row) (i v : ℕ) → i + length rs ≤ 56 → guessIn i rs v .0 < 56
+guess-in [] i v h = omega arith
+guess-in (r ∷ rs) i v h = go (eqb v (packed 0 (r .text))) (guess-in rs (i + 1) v (omega arith))
+  where
+    go : (b : Bool) → guessIn (i + 1) rs v .0 < 56
+        → cond b (record { 0 = i; 1 = length (r .text); 2 = r .kind }) (guessIn (i + 1) rs v) .0 < 56
+    go true e = omega arith
+    go false e = e
+
+pub guess-row : (sort : Sort) (v : ℕ) → guessOf sort v .0 < 56
+unfolding guessOf rowsOf
+guess-row Words v = guess-in words 0 v (unfold words in omega arith)
+guess-row Runs v = guess-in runs 37 v (unfold runs in omega arith)
+guess-row Zeros v = guess-in zeros 54 v (unfold zeros in omega arith)
+
+pub letters-long : length letters ≡ 504
+unfolding letters words runs zeros textOf texts
+letters-long = refl

@@ -1,0 +1,84 @@
+// The texts that have a kind of their own (rules 7, 9 and 10): one table of fixed byte strings, and the lookup.
+// A guess by the last eight letters names the one row that the text can be, and the row's byte string confirms it.
+use crate::guess::Sort;
+use crate::guess::guess_row;
+use chars::offset::Offset;
+use tokens::kind;
+ghost use mathlib.Core.Path.{_≡_};
+ghost use mathlib.Core.List.{map};
+ghost use Prim.Native.Nat.{_+_, _-_, _*_, _≤_, _<_};
+ghost use lib.ListN.{length, take, drop};
+ghost use Rattle.words.specs.Known.{lower, equal, letters, packed, knownKind};
+
+// How many letters a row has room for.
+const ROW: usize = 9;
+
+// A row for each known text: the words, the runs, the beginnings of numbers.
+const LETTERS: [u8; 504] =
+    *b"in       not      like     ilike    rlike    glob     match    regexp   then     else     select   from     where    and      or       update   set      insert   into     values   inner    join     on       limit    offset   between  array    binary   date     time     timestampx        b        n        null     true     false    <=>      >=       <=       =>       =<       <>       !=       ==       =        >        <        <<       >>       &        |        #>       #>>      0x       0b       ";
+
+// The table, for the public call to lend: a constant is laid out anew wherever a function names it.
+pub fn letter_table() -> [u8; 504]
+    ensures { λ r. ⌜ r ≡ letters ⌝ }
+{
+    LETTERS
+}
+
+fn lower(b: u8) -> u8
+    ensures { λ r. ⌜ r ≡ lower b ⌝ }
+{
+    match b {
+        b'A'..=b'Z' => b + 0x20,
+        _ => b,
+    }
+}
+
+// The last eight letters of a text, in lower case.
+fn pack(text: &[u8], at: Offset, count: usize) -> u64
+    requires { ⌜ at .0 + count ≤ length (now text) ⌝ }
+    ensures { λ r. ⌜ r ≡ packed 0 (map lower (take count (drop (at .0) (now (text .entry))))) ⌝ }
+{
+    let mut v: u64 = 0;
+    let mut m = 0;
+    while m < count {
+        v = (v << 8) + (lower(text[at.0 + m]) as u64);
+        m += 1;
+    }
+    v
+}
+
+// Whether the letters of a text are those of a row.
+fn same_letters(table: &[u8; 504], row: usize, text: &[u8], at: Offset, count: usize) -> bool
+    requires { ⌜ now table ≡ letters ⌝ }
+    requires { ⌜ (row < 56) × (count ≤ 9) × (at .0 + count ≤ length (now text)) ⌝ }
+    ensures { λ r. ⌜ r ≡ equal (map lower (take count (drop (at .0) (now (text .entry))))) (take count (drop (row * 9) letters)) ⌝ }
+{
+    let mut m = 0;
+    while m < count {
+        if lower(text[at.0 + m]) != table[row * ROW + m] {
+            return false;
+        }
+        m += 1;
+    }
+    true
+}
+
+// The kind of a known text; None where it is none.
+pub fn known_kind(table: &[u8; 504], sort: Sort, text: &[u8], at: Offset, end: Offset) -> u32
+    requires { ⌜ now table ≡ letters ⌝ }
+    requires { ⌜ (at .0 ≤ end .0) × (end .0 ≤ length (now text)) ⌝ }
+    ensures { λ r. ⌜ r ≡ knownKind sort (take (end .0 - at .0) (drop (at .0) (now (text .entry)))) ⌝ }
+{
+    let count = end.0 - at.0;
+    if ROW < count {
+        return kind::NONE;
+    }
+    let g = guess_row(sort, pack(text, at, count));
+    if g.1 != count {
+        return kind::NONE;
+    }
+    if same_letters(table, g.0, text, at, count) {
+        return g.2;
+    }
+    kind::NONE
+}
