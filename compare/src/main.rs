@@ -34,7 +34,7 @@ fn main() -> ExitCode {
     let word = std::env::args().nth(1).unwrap_or_default();
     let size = match word.as_str() {
         "quick" => Size { full: false, texts: 300_000, statements: 100_000, lists: 100_000, calls: 20_000, longest: 3 },
-        "full" => Size { full: true, texts: 12_000_000, statements: 1_000_000, lists: 2_000_000, calls: 500_000, longest: 4 },
+        "full" => Size { full: true, texts: 12_000_000, statements: 1_000_000, lists: 2_000_000, calls: 700_000, longest: 4 },
         _ => {
             eprintln!("usage: compare quick|full [SEED]");
             return ExitCode::from(2);
