@@ -21,7 +21,7 @@ use lib.ListN.{length, getD, take, drop}
 use lib.Seq.{take-append-seam}
 use Rattle.chars.specs.Utf8.{chars, firstBad}
 use Rattle.tokens.specs.Kinds as kind
-use Rattle.tokens.specs.Slots.{room}
+use Rattle.tokens.specs.Slots.{wordsPerSlot, room}
 use Rattle.tokens.specs.Answers.{Answer, done, refused, noRoomTokens, noRoomOut}
 use Rattle.tokens.specs.Checks.{_then_, fine, checkText, validity, afterwards}
 use Rattle.tokens.proofs.Checking.{text-within}
@@ -124,7 +124,7 @@ module _ (x y : List ℕ) (fit-x : Fit x) (fit-y : Fit y) (alike : Alike x y) wh
       → {r s : Shaped} {ws′ us′ out′ put′ : List ℕ} → SanitizesString x ws out r ws′ out′ → SanitizesString y us put s us′ put′
       → (butStop (paper r) ≡ butStop (paper s)) × (shapeIn (paper r) out′ ≡ shapeIn (paper s) put′)
   same-call {ws} {us} {out} {put} e f {r} {s} {ws′} {us′} {out′} {put′} p q =
-      let room-same : room ws ≡ room us = ap (λ (n : ℕ). n / 3) e in
+      let room-same : room ws ≡ room us = ap (λ (n : ℕ). n / wordsPerSlot) e in
       let shape-same : shape pinned x ≡ shape pinned y = same-shape x y alike in
       let counts = same-counts x y alike in
       let answer-same : rest (length (tokensOf x)) (exposed (sanitizedOf x)) (length (shape pinned x)) (room ws) (length out)

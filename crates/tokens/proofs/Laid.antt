@@ -10,7 +10,7 @@ use native.Mathlib.Omega.{arith}
 use lib.ListN.{length, getD, drop}
 use Rattle.tokens.specs.declared.slot.Slot.{Slot}
 use lib.Seq.{drop-at}
-use Rattle.tokens.specs.Slots.{room, slotAt, tokensFrom, tokensIn, words, laid, Left}
+use Rattle.tokens.specs.Slots.{wordsPerSlot, room, slotAt, tokensFrom, tokensIn, words, laid, Left}
 use Rattle.tokens.proofs.Storing.{slot-ext, length-words, length-laid}
 
 module _ (a b c : ℕ) (ws : List ℕ) where
@@ -20,8 +20,8 @@ module _ (a b c : ℕ) (ws : List ℕ) where
 
   slot-on : (i : ℕ) → slotAt (a ∷ b ∷ c ∷ ws) (suc i) ≡ slotAt ws i
   slot-on i =
-      slot-ext _ _ (word-on (suc i * 3) (i * 3) (omega arith)) (word-on (suc i * 3 + 1) (i * 3 + 1) (omega arith))
-      (word-on (suc i * 3 + 2) (i * 3 + 2) (omega arith))
+      slot-ext _ _ (word-on (suc i * wordsPerSlot) (i * wordsPerSlot) (omega arith)) (word-on (suc i * wordsPerSlot + 1) (i * wordsPerSlot + 1) (omega arith))
+      (word-on (suc i * wordsPerSlot + 2) (i * wordsPerSlot + 2) (omega arith))
 
   slots-on : (i n : ℕ) → tokensFrom (a ∷ b ∷ c ∷ ws) (suc i) n ≡ tokensFrom ws i n
   unfolding tokensFrom
@@ -35,12 +35,12 @@ tokens-words (t ∷ ts) rest = ap (λ (us : List Slot). t ∷ us) (slots-on (t .
 
 pub tokens-laid : (ts : List Slot) (ws : List ℕ) → tokensIn (laid ts ws) (length ts) ≡ ts
 unfolding laid
-tokens-laid ts ws = tokens-words ts (drop (length ts * 3) ws)
+tokens-laid ts ws = tokens-words ts (drop (length ts * wordsPerSlot) ws)
 
 pub laid-left : (ts : List Slot) (ws : List ℕ) → length ts ≤ room ws → Left (length ts) ws (laid ts ws) ts
 unfolding laid
 laid-left ts ws h = record {
   tokens = tokens-laid ts ws;
-  rest = drop-at (words ts) (drop (length ts * 3) ws) (length ts * 3) (length-words ts);
+  rest = drop-at (words ts) (drop (length ts * wordsPerSlot) ws) (length ts * wordsPerSlot) (length-words ts);
   long = length-laid ts ws h;
 }
