@@ -3,3 +3,4 @@ pub mod Printing
 pub mod Answers
 pub mod Unique
 pub mod Longer
+pub mod Examples
