@@ -3,6 +3,7 @@
 -- text-append        bytes joined, text joined
 -- text-long          two characters a byte
 -- set-put            one store is a copy of one byte
+-- put-front          what the front of a page holds after a copy
 -- head-long, printed-long   the length of a printed frame
 -- put-more           one more byte as text
 -- Assumes nothing.
@@ -12,7 +13,7 @@ use Prim.Native.Nat.{ℕ, suc, _+_, _-_, _*_, _/_, _%_, _≤_, _<_}
 use native.Mathlib.Numerals.{add-one}
 use native.Mathlib.Omega.{arith}
 use lib.ListN.{length, getD, set, take, drop, length-set, length-append}
-use lib.Seq.{append-snoc, take-suc, set-split}
+use lib.Seq.{append-snoc, take-suc, set-split, take-at, length-take-le}
 use borrow.Author.Tests.{lt-ltb, le-ltb}
 use Rattle.writer.specs.Promise.{Put}
 use Rattle.writer.proofs.Puts.{put-as, put-then, put-long}
@@ -43,6 +44,12 @@ set-put l i v h = record {
   next = refl;
   left = set-split l i v h ∙ sym (append-snoc (take i l) v (drop (suc i) l)) ∙ ap (λ (k : ℕ). take i l ++ (v ∷ []) ++ drop k l) (sym (add-one i));
 }
+
+-- the front of a page after a copy
+pub put-front : {out : List ℕ} {at : ℕ} {s : List ℕ} {r : ℕ} {out′ : List ℕ} → at ≤ length out → Put out at s r out′ → take r out′ ≡ take at out ++ s
+put-front {out} {at} {s} {r} h p =
+    ap (take r) (p .left)
+    ∙ take-at (take at out ++ s) (drop (at + length s) out) r (omega (arith, length-append (take at out) s, length-take-le at out h, p .next))
 
 -- the two characters of a byte
 abbrev pub two : ℕ → List ℕ

@@ -103,7 +103,8 @@ printed f = hexText (head f) ++ hexText (f .shape) ++ (code "\n" ∷ [])
 abbrev pub longest : ℕ
 longest = 2 + 8 + 32768 + 1
 
--- a line's frame is printed behind the first `at` bytes of the page, and is no longer than the longest
+-- a line's frame is printed behind the first `at` bytes of the page, is no longer than the longest, and is the last that the first r bytes hold
 pub record Prints (line page : List ℕ) (at r : ℕ) (page′ : List ℕ) : Type 0 where
   pub put : Put page at (printed (frameOf line)) r page′
   pub within : r ≤ at + longest
+  pub front : take r page′ ≡ take at page ++ printed (frameOf line)

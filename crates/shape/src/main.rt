@@ -1,10 +1,11 @@
 // The program of document 01: lines of hexadecimal on standard input, one frame a line on standard output.
 // A line's frame is proved in crate frames; here lines are cut from the input, and frames collected until a page is written.
 use frames::print_frame;
-ghost use Prim.Native.Nat.{_≤_, _+_};
-ghost use lib.ListN.{length};
-ghost use Rattle.frames.specs.Frames.{longest};
-ghost use Rattle.shape.specs.Fits.{Fits};
+ghost use mathlib.Core.Path.{_≡_};
+ghost use Prim.Native.Nat.{suc, _≤_, _+_};
+ghost use lib.ListN.{length, take};
+ghost use Rattle.frames.specs.Frames.{lineLimit, longest, Prints};
+ghost use Rattle.shape.specs.Fits.{Fits, pageRoom, Keeps, Takes, Ends};
 
 // The most bytes of a page that leave room for the longest frame, 32,779 bytes.
 const FULL: usize = 65536 - 32779;
@@ -27,7 +28,23 @@ fn write_out(page: &[u8], count: usize, lost: bool) -> bool
     !io::write_all(1, &page[..count])
 }
 
-// Prints the frame of the line that is held, and writes the page where the next frame may not fit.
+// Writes the page where the longest frame may not fit behind what it has.
+fn make_room(held: Held, page: &[u8]) -> Held
+    requires { ⌜ (held .page ≤ pageRoom) × (pageRoom ≤ length (now page)) ⌝ }
+    ensures { λ r. ⌜ (r .line ≡ held .line) × (r .page + longest ≤ pageRoom) ⌝ }
+{
+    if held.page <= FULL {
+        return held;
+    }
+    Held {
+        line: held.line,
+        page: 0,
+        lost: write_out(page, held.page, held.lost),
+        ended: held.ended,
+    }
+}
+
+// Prints the frame of the line that is held.
 fn end_line(
     held: Held,
     line: &[u8],
@@ -36,32 +53,23 @@ fn end_line(
     out: &mut [u8; 16384],
     page: &mut [u8; 65536],
 ) -> Held
-    requires { ⌜ Fits held (now line) ⌝ }
-    ensures { λ r. ⌜ Fits r (now (line .entry)) ⌝ }
+    requires { ⌜ (held .line ≤ length (now line)) × (held .page + longest ≤ pageRoom) ⌝ }
+    ensures { λ r. ⌜ (r .line ≡ 0) × Prints (take (held .line) (now (line .entry))) (now (page .entry)) (held .page) (r .page) (now (page .exit)) ⌝ }
 {
-    let length = held.line;
-    let at = print_frame(&line[..length], text, slots, out, page, held.page);
-    if at <= FULL {
-        return Held {
-            line: 0,
-            page: at,
-            lost: held.lost,
-            ended: held.ended,
-        };
-    }
+    let count = held.line;
     Held {
         line: 0,
-        page: 0,
-        lost: write_out(page, at, held.lost),
+        page: print_frame(&line[..count], text, slots, out, page, held.page),
+        lost: held.lost,
         ended: held.ended,
     }
 }
 
-// Keeps a character of the line. There is room for one more than a line may have; a longer line has the same frame
-// whatever follows, so the rest is dropped.
+// Keeps a character of the line, where there is room: for one more than a line may have. A longer line has the same frame whatever
+// follows, so the rest is dropped.
 fn keep(line: &mut [u8], count: usize, c: u8) -> usize
     requires { ⌜ count ≤ length (now line) ⌝ }
-    ensures { λ r. ⌜ r ≤ length (now (line .exit)) ⌝ }
+    ensures { λ r. ⌜ Keeps (now (line .entry)) count c r (now (line .exit)) ⌝ }
 {
     if count < line.len() {
         line[count] = c;
@@ -80,8 +88,8 @@ fn step(
     out: &mut [u8; 16384],
     page: &mut [u8; 65536],
 ) -> Held
-    requires { ⌜ Fits held (now line) ⌝ }
-    ensures { λ r. ⌜ Fits r (now (line .exit)) ⌝ }
+    requires { ⌜ Fits held (now line) × (held .page + longest ≤ pageRoom) ⌝ }
+    ensures { λ r. ⌜ Takes c held (now (line .entry)) (now (page .entry)) r (now (line .exit)) (now (page .exit)) ⌝ }
 {
     if c == b'\n' {
         return end_line(held, line, text, slots, out, page);
@@ -110,6 +118,7 @@ fn feed(
     let mut held = start;
     let mut i = 0;
     while i < chunk.len() {
+        held = make_room(held, page);
         held = step(held, chunk[i], line, text, slots, out, page);
         i += 1;
     }
@@ -142,7 +151,25 @@ fn turn(
     feed(&buf[..n], held, line, text, slots, out, page)
 }
 
-// The end of the input ends a line that has begun; then the page is written.
+// The end of the input ends a line that has begun.
+fn end_input(
+    held: Held,
+    line: &[u8],
+    text: &mut [u8; 8192],
+    slots: &mut [u32; 12288],
+    out: &mut [u8; 16384],
+    page: &mut [u8; 65536],
+) -> Held
+    requires { ⌜ (held .line ≤ length (now line)) × (held .page + longest ≤ pageRoom) ⌝ }
+    ensures { λ r. ⌜ Ends held (now (line .entry)) (now (page .entry)) r (now (page .exit)) ⌝ }
+{
+    if 0 < held.line {
+        return end_line(held, line, text, slots, out, page);
+    }
+    held
+}
+
+// What is left is printed, and the last page written.
 fn finish(
     held: Held,
     line: &[u8],
@@ -153,12 +180,9 @@ fn finish(
 )
     requires { ⌜ Fits held (now line) ⌝ }
 {
-    if 0 < held.line {
-        let last = end_line(held, line, text, slots, out, page);
-        write_out(page, last.page, last.lost);
-        return;
-    }
-    write_out(page, held.page, held.lost);
+    let ready = make_room(held, page);
+    let last = end_input(ready, line, text, slots, out, page);
+    write_out(page, last.page, last.lost);
 }
 
 fn run(
@@ -167,7 +191,9 @@ fn run(
     slots: &mut [u32; 12288],
     out: &mut [u8; 16384],
     page: &mut [u8; 65536],
-) {
+)
+    requires { ⌜ length (now line) ≡ suc lineLimit ⌝ }
+{
     let mut held = Held {
         line: 0,
         page: 0,

@@ -5,7 +5,7 @@ use lib.ListN.{length}
 use Rattle.writer.proofs.Puts.{put-as}
 use Rattle.frames.specs.declared.Frame.{Frame}
 use Rattle.frames.specs.Frames.{frameOf, shownOver, printed}
-use Rattle.frames.proofs.Printing.{printed-long}
+use Rattle.frames.proofs.Printing.{printed-long, put-front}
 use Rattle.frames.proofs.Answers.{shown-fits, shown-back}
 use borrow.Author.Needs.{needs}
 use Rattle.frames.proofs.print_frame.Statement.{statement}
@@ -32,7 +32,7 @@ returns c =
     let fits = shown-fits (f .shape) (x .out .now) (e .left .output) in
     let same : shownOver (c .before .before .before .before .frame-line .result) _ ≡ f = shown-back f _ (x .out .now) (e .answer) (e .left .output) in
     let p = put-as (ap printed (sym same)) (c .put-frame .ensures) in
-    (record { put = p; within = omega (arith, p .next, printed-long f, fits) }, e .left)
+    (record { put = p; within = omega (arith, p .next, printed-long f, fits); front = put-front (omega arith) p }, e .left)
 
 pub print-frame-spec : {M : Type 1} → statement M
 print-frame-spec = tie.close (tie.spec frame-line-requires put-frame-requires returns)

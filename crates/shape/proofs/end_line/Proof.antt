@@ -13,18 +13,5 @@ print-frame-requires c κs = search needs
 returns : tie.Need-returns
 returns c = search needs
 
-write-out-requires : tie.Need-write-out-requires
-write-out-requires c κs = search needs
-
-returns-2 : tie.Need-returns-2
-returns-2 c = search needs
-
 pub end-line-spec : {M : Type 1} → statement M
-end-line-spec =
-    tie.close
-    (tie.spec
-    slice-aggregate-print-frame
-    print-frame-requires
-    returns
-    write-out-requires
-    returns-2)
+end-line-spec = tie.close (tie.spec slice-aggregate-print-frame print-frame-requires returns)
