@@ -45,6 +45,7 @@ use Rattle.sql_lexer.specs.declared.Shaped.the-variants as shapes
 use Rattle.demands.specs.Terms.{tokensOf}
 use Rattle.demands.specs.Tables.{Refuses, Clear, lexTable, stringTable}
 use Rattle.demands.proofs.Demand1.{lex-follows, sanitize-follows, string-follows}
+use Rattle.demands.proofs.Rows.{Outcome, rows-right}
 
 not-done : (r : Refusal) (ns : List ℕ) → refusal r ≡ done ns → ⊥
 not-done (TextTooLong n) ns e = clash (cc)
@@ -62,19 +63,13 @@ empty-clear = ((λ d h. omega (arith, h .0)), ((λ d h. clash (cc)), ((λ d h. o
 pub always-refuses : {r : Refusal} {ws out : List ℕ} → SanitizesString [] [] [] (shapes.Refused r) ws out → ⊥
 always-refuses {r} {ws} {out} p = not-done r (figures pinned []) (string-follows p .done-when empty-clear)
 
--- the shapes of two statements
-two-shapes : (shape pinned (ascii "a") ≡ ascii "a") × (shape pinned (ascii "b") ≡ ascii "b")
-unfolding chars charsFrom front joined ranged follows isScalar width encode encodeAll table.within alphabeticPairs numericPairs alphabetic numeric
-    textOf texts scan span inLine inRun inCharset inWord inNumber goesOn words runs zeros rowsOf knownKind
-    ruleOf quoted line block numbered run charset word number byRule readOne go reading
-    sanitized sanitizer.run turn turnBy closeFrom rowsFrom blank rules armOf doesOf kind.isOperator kind.isKeyword kind.isIndicator
-    kind.isQuoted carriesOffsets within content tokenText written sanitizedTokens shape
-two-shapes = (refl, refl)
-
+-- two rows of document 01's table have two shapes
 pub fixed-shape : (s : List ℕ) → ((text : List ℕ) → shape pinned text ≡ s) → ⊥
 fixed-shape s h =
-    let z : ascii "a" ≡ ascii "b" = sym (two-shapes .0) ∙ h (ascii "a") ∙ sym (h (ascii "b")) ∙ two-shapes .1 in
-    let y : _≡_ {A = ℕ} 97 98 = ap (λ (l : List ℕ). getD l 0 0) z in
+    let one : shape pinned (ascii "a =< 1") ≡ ascii "a <= ?" = ap (λ (l : List Outcome). getD l 1 ([], []) .0) rows-right in
+    let two : shape pinned (ascii "a ! b") ≡ ascii "a " = ap (λ (l : List Outcome). getD l 2 ([], []) .0) rows-right in
+    let z : ascii "a <= ?" ≡ ascii "a " = sym one ∙ h (ascii "a =< 1") ∙ sym (h (ascii "a ! b")) ∙ two in
+    let y : _≡_ {A = ℕ} 6 2 = ap length z in
     omega arith
 
 pub changes-nothing : ((ts : List Slot) → sanitized ts ≡ ts) → ⊥
