@@ -2,14 +2,18 @@
 -- numeric-in, -out, alphabetic-in, -out   the two classes below 0x80
 -- goes-numeric, goes-letter               what goes on in a charset, a word, a number by its class
 -- numerics-out, charset-out, word-out, number-out   what goes on in none
+-- mark-in, word-none, number-none       the same for an ASCII character, by what it is or is not
+-- by-range, by-one                        a test that is answered says what its two cases say
 -- Assumes nothing.
-use mathlib.Core.Path.{_≡_, sym}
-use mathlib.Core.Bool.{true, false, or-true}
+use mathlib.Core.Path.{_≡_, refl, sym, _∙_}
+use mathlib.Core.Bool.{Bool, true, false, or-true}
 use Prim.Native.Nat.{ℕ, _≤_, _<_}
 use native.Mathlib.Omega.{arith}
-use borrow.Author.Tests.{ne-eqb}
+use borrow.Author.Tests.{leb-true, leb-false, eqb-true, eqb-false, ne-eqb}
+use lib.Dec.{eqb, leb}
 use Rattle.chars.specs.Class.{alphabetic, numeric}
 use Rattle.chars.proofs.Spelled.{upper, lower, no-letter, digit, no-digit}
+use Rattle.scans.specs.declared.goes.Stop.{Stop}
 use Rattle.scans.specs.declared.goes.Stop.the-variants.{Charset, Word, Number}
 use Rattle.scans.specs.Ways.{pinned}
 use Rattle.scans.specs.Scans.{inCharset, inWord, inNumber, goesOn}
@@ -59,3 +63,28 @@ module _ (c : ℕ) where
   pub number-out : (c ≡ 0x2E → ⊥) → (c ≡ 0x78 → ⊥) → (c ≡ 0x58 → ⊥) → (c ≡ 0x62 → ⊥) → (c ≡ 0x42 → ⊥) → goesOn pinned Number c ≡ numeric c
   unfolding goesOn inNumber
   number-out a b d e f = simp (ne-eqb c 0x2E a, ne-eqb c 0x78 b, ne-eqb c 0x58 d, ne-eqb c 0x62 e, ne-eqb c 0x42 f)
+
+  -- ---- an ASCII character
+  pub mark-in : (stop : Stop) (k : ℕ) → goesOn pinned stop k ≡ true → c ≡ k → goesOn pinned stop c ≡ true
+  mark-in stop k h e = rw e h
+
+  pub word-none : c < 0x80 → (0x30 ≤ c → c ≤ 0x39 → ⊥) → (0x41 ≤ c → c ≤ 0x5A → ⊥) → (0x61 ≤ c → c ≤ 0x7A → ⊥) → (c ≡ 0x5F → ⊥) → (c ≡ 0x2D → ⊥) → goesOn pinned Word c ≡ false
+  word-none k d a b m n = word-out m n ∙ charset-out (alphabetic-out k a b) ∙ numeric-out k d
+
+  pub number-none : c < 0x80 → (0x30 ≤ c → c ≤ 0x39 → ⊥) → (c ≡ 0x2E → ⊥) → (c ≡ 0x78 → ⊥) → (c ≡ 0x58 → ⊥) → (c ≡ 0x62 → ⊥) → (c ≡ 0x42 → ⊥) → goesOn pinned Number c ≡ false
+  number-none k n a b d e f = number-out a b d e f ∙ numeric-out k n
+
+  -- ---- a test that is answered
+  pub by-range : (k : ℕ) (x : Bool) → (c ≤ k → x ≡ true) → (k < c → x ≡ false) → leb c k ≡ x
+  by-range k x f g = go (leb c k) refl
+    where
+      go : (b : Bool) → leb c k ≡ b → b ≡ x
+      go true e = sym (f (leb-true c k e))
+      go false e = sym (g (leb-false c k e))
+
+  pub by-one : (k : ℕ) (x : Bool) → (c ≡ k → x ≡ true) → ((c ≡ k → ⊥) → x ≡ false) → eqb c k ≡ x
+  by-one k x f g = go (eqb c k) refl
+    where
+      go : (b : Bool) → eqb c k ≡ b → b ≡ x
+      go true e = sym (f (eqb-true c k e))
+      go false e = sym (g (eqb-false c k e))

@@ -50,27 +50,38 @@ pub fn ascii_charset(b: u8) -> bool
     }
 }
 
+// Letters first, then digits: so the most frequent take the fewest tests.
 pub fn ascii_word(b: u8) -> bool
     requires { ⌜ b < 0x80 ⌝ }
     ensures { λ r. ⌜ r ≡ goesOn pinned Stop.Word b ⌝ }
 {
-    match b {
-        b'0'..=b'9' => true,
-        b'A'..=b'Z' => true,
-        b'a'..=b'z' => true,
-        b'_' => true,
-        b'-' => true,
-        _ => false,
+    if b'a' <= b {
+        return b <= b'z';
     }
+    if b'A' <= b {
+        if b <= b'Z' {
+            return true;
+        }
+        return b == b'_';
+    }
+    if b'0' <= b {
+        return b <= b'9';
+    }
+    b == b'-'
 }
 
+// Digits first.
 pub fn ascii_number(b: u8) -> bool
     requires { ⌜ b < 0x80 ⌝ }
     ensures { λ r. ⌜ r ≡ goesOn pinned Stop.Number b ⌝ }
 {
+    if b < b'0' {
+        return b == b'.';
+    }
+    if b <= b'9' {
+        return true;
+    }
     match b {
-        b'0'..=b'9' => true,
-        b'.' => true,
         b'x' => true,
         b'X' => true,
         b'b' => true,
