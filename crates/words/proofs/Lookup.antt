@@ -4,24 +4,26 @@
 -- guess-row                          a guess names a row of the table
 -- lookup-is                          guess and confirmation are the search
 -- lookup-long                        a text longer than any row is not known
+-- zero-not                           nor is a number that does not begin with `0`
 -- Assumes nothing.
 use mathlib.Core.Path.{_≡_, refl, sym, ap, _∙_}
 use mathlib.Core.Bool.{Bool, true, false, cond, not, _&&_}
 use mathlib.Core.List.{List, [], _∷_, map}
 use Prim.Native.Nat.{ℕ, zero, suc, _+_, _*_, _%_, _^_, _≤_, _<_}
+use Prim.Native.Char.{code}
 use native.Mathlib.Numerals.{add-one}
 use native.Mathlib.Omega.{arith}
 use lib.Dec.{eqb, leb}
 use lib.ListN.{length, getD, take, drop, length-take, length-drop, length-map, drop-of-length-le}
 use lib.Seq.{drop-cons, getD-take, getD-drop}
-use borrow.Author.Tests.{eq-eqb, eqb-true, leb-true}
+use borrow.Author.Tests.{eq-eqb, eqb-true, ne-eqb, leb-true}
 use Rattle.chars.proofs.Bytes.{and-l, and-r}
 use Rattle.tokens.specs.Kinds as kind
 use Rattle.tokens.specs.Texts.{Row, textOf, texts}
 use Rattle.words.specs.declared.guess.Sort.{Sort}
 use Rattle.words.specs.declared.guess.Sort.the-variants.{Words, Runs, Zeros}
 use Rattle.words.specs.declared.guess.Guess.{Guess}
-use Rattle.words.specs.Known.{lower, equal, find, words, runs, zeros, rowsOf, letters, packed, guessIn, guessOf}
+use Rattle.words.specs.Known.{lower, equal, find, words, runs, zeros, rowsOf, knownKind, letters, packed, guessIn, guessOf}
 use Rattle.chars.proofs.Scalars.{clash}
 
 -- ---- the comparison
@@ -181,3 +183,19 @@ guess-row Zeros v = guess-in zeros 54 v (unfold zeros in omega arith)
 pub letters-long : length letters ≡ 504
 unfolding letters words runs zeros textOf texts
 letters-long = refl
+
+-- ---- the beginnings of numbers
+lower-not : (b : ℕ) → (b ≡ code "0" → ⊥) → lower b ≡ code "0" → ⊥
+lower-not b n = go (leb 0x41 b && leb b 0x5A) refl
+  where
+    go : (x : Bool) → (leb 0x41 b && leb b 0x5A) ≡ x → cond x (b + 0x20) b ≡ code "0" → ⊥
+    go true e h = omega (arith, leb-true 0x41 b (and-l (leb 0x41 b) (leb b 0x5A) e))
+    go false e h = n h
+
+zero-first : (b : ℕ) (bs : List ℕ) → (b ≡ code "0" → ⊥) → knownKind Zeros (b ∷ bs) ≡ kind.None
+unfolding knownKind rowsOf zeros
+zero-first b bs n = rw (ne-eqb (lower b) (code "0") (lower-not b n))
+
+pub zero-not : (t : List ℕ) (at n : ℕ) → at < length t → (getD t at 0 ≡ code "0" → ⊥) → kind.None ≡ knownKind Zeros (take n (drop at t))
+zero-not t at zero h d = unfold knownKind rowsOf zeros in refl
+zero-not t at (suc n) h d = rw (drop-cons t at 0 h) (sym (zero-first (getD t at 0) (take n (drop (suc at) t)) d))

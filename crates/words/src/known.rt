@@ -82,3 +82,16 @@ pub fn known_kind(table: &[u8; 504], sort: Sort, text: &[u8], at: Offset, end: O
     }
     kind::NONE
 }
+
+// Rule 10: the kind of the beginning of a number. Most numbers are none by their first byte.
+pub fn zero_kind(table: &[u8; 504], text: &[u8], at: Offset, end: Offset) -> u32
+    requires { ⌜ now table ≡ letters ⌝ }
+    requires { ⌜ (at .0 < length (now text)) × (at .0 ≤ end .0) × (end .0 ≤ length (now text)) ⌝ }
+    ensures { λ r. ⌜ r ≡ knownKind Sort.Zeros (take (end .0 - at .0) (drop (at .0) (now (text .entry)))) ⌝ }
+{
+    let i = at.0;
+    if text[i] != b'0' {
+        return kind::NONE;
+    }
+    known_kind(table, Sort::Zeros, text, at, end)
+}
