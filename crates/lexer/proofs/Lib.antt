@@ -1,6 +1,7 @@
 pub mod Choice
 pub mod Spelling
 pub mod Steps
+pub mod Marks
 pub mod Turns
 pub mod Answering
 pub mod Unique

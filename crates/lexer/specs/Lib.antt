@@ -1,3 +1,4 @@
 pub mod Rules
+pub mod Marks
 pub mod Read
 pub mod Lexes

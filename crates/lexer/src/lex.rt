@@ -1,4 +1,6 @@
 // The whole reading: one loop, and its public face.
+use crate::mark::mark_at;
+use crate::mark::mark_table;
 use crate::read::Step;
 use crate::read::read_one;
 use crate::rule::State;
@@ -6,10 +8,12 @@ use crate::rule::state_after;
 use chars::offset::Offset;
 use chars::utf8::Verdict;
 use chars::utf8::validate;
+use tokens::kind;
 use tokens::place::Place;
 use tokens::refusal::LIMIT;
 use tokens::refusal::Refusal;
 use tokens::slot::Slot;
+use tokens::slot::bare;
 use tokens::slot::put;
 use tokens::slot::whole_slots;
 use words::known::letter_table;
@@ -20,6 +24,7 @@ ghost use Rattle.tokens.specs.Slots.{room, laid};
 ghost use Rattle.scans.specs.Ways.{pinned};
 ghost use Rattle.words.specs.Known.{letters};
 ghost use Rattle.scans.specs.Whole.{Whole};
+ghost use Rattle.lexer.specs.Marks.{markTable};
 ghost use Rattle.lexer.specs.Read.{reading, tokens, walkedOf, kept};
 ghost use Rattle.lexer.specs.Lexes.{Lexes, Valid};
 
@@ -46,8 +51,8 @@ fn keep(slots: &mut [u32], upto: usize, place: Place, slot: Slot)
 }
 
 // Counts all tokens, and stores those whose place is below `upto`.
-fn walk(table: &[u8; 504], text: &[u8], slots: &mut [u32], upto: usize) -> Walked
-    requires { ⌜ now table ≡ letters ⌝ }
+fn walk(table: &[u8; 504], marks: &[u8; 128], text: &[u8], slots: &mut [u32], upto: usize) -> Walked
+    requires { ⌜ (now table ≡ letters) × (now marks ≡ markTable) ⌝ }
     requires { ⌜ Whole (now text) 0 ⌝ }
     requires { ⌜ upto ≤ room (now slots) ⌝ }
     ensures { λ r. ⌜ r ≡ walkedOf (reading pinned (now (text .entry))) ⌝ }
@@ -57,6 +62,13 @@ fn walk(table: &[u8; 504], text: &[u8], slots: &mut [u32], upto: usize) -> Walke
     let mut n = 0;
     let mut state = State::Default;
     while at < text.len() {
+        let mark = mark_at(marks, text, Offset(at));
+        if mark != kind::NONE {
+            keep(slots, upto, Place(n), bare(mark));
+            at += 1;
+            n += 1;
+            continue;
+        }
         let step = read_one(table, text, Offset(at), state);
         match step {
             Step::Token(slot, next) => {
@@ -85,15 +97,16 @@ fn lex_valid(text: &[u8], slots: &mut [u32]) -> Lexed
     ensures { λ r. ⌜ Valid (now (text .entry)) (now (slots .entry)) r (now (slots .exit)) ⌝ }
 {
     let table = letter_table();
+    let marks = mark_table();
     let places = whole_slots(slots);
     if places < text.len() {
-        let counted = walk(&table, text, slots, 0);
+        let counted = walk(&table, &marks, text, slots, 0);
         let needed = counted.tokens;
         if places < needed {
             return Lexed::Refused(Refusal::NoRoomTokens(needed));
         }
     }
-    let walked = walk(&table, text, slots, places);
+    let walked = walk(&table, &marks, text, slots, places);
     let stop = walked.stop;
     Lexed::Done(walked.tokens, stop)
 }

@@ -17,6 +17,7 @@ use tokens::slot::Slot;
 use tokens::slot::bare;
 use words::guess::Sort;
 use words::known::known_kind;
+use words::known::zero_kind;
 ghost use mathlib.Core.Path.{_≡_};
 ghost use Prim.Native.Nat.{_+_, _≤_, _<_};
 ghost use lib.ListN.{length};
@@ -164,7 +165,7 @@ fn read_number(table: &[u8; 504], text: &[u8], at: Offset) -> Step
     ensures { λ r. ⌜ r ≡ readBy (number pinned) (now (text .entry)) (at .0) ⌝ }
 {
     let end = number_end(text, number_from(text, at));
-    let kind = known_kind(table, Sort::Zeros, text, at, end);
+    let kind = zero_kind(table, text, at, end);
     if kind == kind::NONE {
         return Step::Token(part(kind::NUMERIC, at, end), end);
     }

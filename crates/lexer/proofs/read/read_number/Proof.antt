@@ -12,12 +12,12 @@ number-from-requires c κs = search needs
 number-end-requires : tie.Need-number-end-requires
 number-end-requires c κs = search needs
 
-known-kind-requires : tie.Need-known-kind-requires
-known-kind-requires c κs =
+zero-kind-requires : tie.Need-zero-kind-requires
+zero-kind-requires c κs =
     let s = c .before .before .before in
-    let e = c in
     let f = c .before in
-    (s .pre .0, number-bounds (now (s .args .text)) (s .args .at .0) (s .pre .1) (f .number-from .result .0) (f .number-from .ensures) (e .number-end .result) (e .number-end .ensures))
+    let b = number-bounds (now (s .args .text)) (s .args .at .0) (s .pre .1) (f .number-from .result .0) (f .number-from .ensures) (c .number-end .result) (c .number-end .ensures) in
+    (s .pre .0, (s .pre .1 .readable .here, b .0, b .1))
 
 part-requires : tie.Need-part-requires
 part-requires c κs =
@@ -32,7 +32,7 @@ returns c =
     let s = c .before .before .before .before .before .before in
     let e = c .before .before .before in
     let f = e .before in
-    rw (c .part .ensures) (number-plain (now (s .args .text)) (s .args .at .0) (s .pre .1) (f .number-from .result .0) (f .number-from .ensures) (e .number-end .result) (e .number-end .ensures) (c .before .before .known-kind .result) (c .before .before .known-kind .ensures) (c .before .if1 .taken))
+    rw (c .part .ensures) (number-plain (now (s .args .text)) (s .args .at .0) (s .pre .1) (f .number-from .result .0) (f .number-from .ensures) (e .number-end .result) (e .number-end .ensures) (c .before .before .zero-kind .result) (c .before .before .zero-kind .ensures) (c .before .if1 .taken))
 
 bare-requires : tie.Need-bare-requires
 bare-requires c κs = search needs
@@ -42,7 +42,7 @@ returns-2 c =
     let s = c .before .before .before .before .before .before in
     let e = c .before .before .before in
     let f = e .before in
-    rw (c .bare .ensures) (number-known (now (s .args .text)) (s .args .at .0) (s .pre .1) (f .number-from .result .0) (f .number-from .ensures) (e .number-end .result) (e .number-end .ensures) (c .before .before .known-kind .result) (c .before .before .known-kind .ensures) (c .before .if1 .left))
+    rw (c .bare .ensures) (number-known (now (s .args .text)) (s .args .at .0) (s .pre .1) (f .number-from .result .0) (f .number-from .ensures) (e .number-end .result) (e .number-end .ensures) (c .before .before .zero-kind .result) (c .before .before .zero-kind .ensures) (c .before .if1 .left))
 
 pub read-number-spec : {M : Type 1} → statement M
-read-number-spec = tie.close (tie.spec number-from-requires number-end-requires known-kind-requires part-requires returns bare-requires returns-2)
+read-number-spec = tie.close (tie.spec number-from-requires number-end-requires zero-kind-requires part-requires returns bare-requires returns-2)

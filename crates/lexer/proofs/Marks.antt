@@ -1,0 +1,120 @@
+-- The table of marks: what it says of a character, and that a mark is read as the rules have it.
+-- getD-marks     the table's letter of a character
+-- mark-high      nothing above ASCII is a mark
+-- mark-small, mark-state   a mark's kind is a small number, after which the state is as it was
+-- mark-rule, mark-read     the rules choose the mark, whatever follows it and whatever was read before, and read it
+-- Assumes nothing.
+use mathlib.Core.Path.{_≡_, refl, sym, ap, _∙_}
+use mathlib.Core.Bool.{Bool, true, false, cond}
+use mathlib.Core.List.{List, [], _∷_}
+use Prim.Native.Nat.{ℕ, zero, suc, _+_, _≤_, _<_}
+use Prim.Native.Char.{code}
+use native.Mathlib.Nat.{add-zero}
+use native.Mathlib.Decide.{decLt}
+use native.Mathlib.Omega.{arith}
+use lib.Dec.{eqb}
+use lib.ListN.{getD, drop}
+use borrow.Author.Tests.{ne-eqb, eqb-true, eqb-false}
+use Rattle.chars.specs.Utf8.{chars}
+use Rattle.chars.specs.Steps.{offset}
+use Rattle.tokens.specs.Kinds as kind
+use Rattle.tokens.specs.Slots.{bare}
+use Rattle.lexer.specs.declared.rule.State.{State}
+use Rattle.lexer.specs.declared.rule.Rule.the-variants.{Single}
+use Rattle.lexer.specs.declared.read.Step.the-variants.{Token}
+use Rattle.scans.specs.Ways.{Ways}
+use Rattle.scans.specs.Whole.{Readable}
+use Rattle.lexer.specs.Rules.{nothing, took, ruleOf, byRule, readOne, stateAfter}
+use Rattle.lexer.specs.Marks.{markOf, marksFrom, markTable}
+use Rattle.lexer.specs.Read.{stepOf, readBy, Ascii}
+use Rattle.scans.proofs.Characters.{stepped-ascii}
+use Rattle.lexer.proofs.Steps.{read-at, single-read}
+
+-- ---- the table
+getD-from : (c n j : ℕ) → j < n → getD (marksFrom c n) j 0 ≡ code "@" + markOf (c + j)
+getD-from c zero j h = absurd (omega arith)
+getD-from c (suc n) zero h = ap (λ (m : ℕ). code "@" + markOf m) (sym (add-zero c))
+getD-from c (suc n) (suc j) h = getD-from (suc c) n j (omega arith) ∙ ap (λ (m : ℕ). code "@" + markOf m) (omega arith)
+
+pub getD-marks : (c : ℕ) → c < 0x80 → getD markTable c 0 ≡ code "@" + markOf c
+unfolding markTable
+getD-marks c h = getD-from 0 0x80 c h ∙ ap (λ (m : ℕ). code "@" + markOf m) (omega arith)
+
+-- ---- which characters are marks
+-- a number is this one, or it is not
+step : (c k : ℕ) (P : ℕ → Type 0) → P k → ((c ≡ k → ⊥) → P c) → P c
+step c k P p f = go (eqb c k) refl
+  where
+    go : (b : Bool) → eqb c k ≡ b → P c
+    go true e = rw (eqb-true c k e) p
+    go false e = f (eqb-false c k e)
+
+mark-none : (c : ℕ) → (c ≡ 32 → ⊥) → (c ≡ 10 → ⊥) → (c ≡ 13 → ⊥) → (c ≡ 46 → ⊥) → (c ≡ 44 → ⊥) → (c ≡ 40 → ⊥) → (c ≡ 41 → ⊥) → (c ≡ 91 → ⊥) → (c ≡ 93 → ⊥) → (c ≡ 58 → ⊥) → (c ≡ 59 → ⊥) → (c ≡ 63 → ⊥) → markOf c ≡ kind.None
+unfolding markOf
+mark-none c n0 n1 n2 n3 n4 n5 n6 n7 n8 n9 n10 n11 =
+    rw (ne-eqb c 32 n0, ne-eqb c 10 n1, ne-eqb c 13 n2, ne-eqb c 46 n3, ne-eqb c 44 n4, ne-eqb c 40 n5, ne-eqb c 41 n6, ne-eqb c 91 n7, ne-eqb c 93 n8, ne-eqb c 58 n9, ne-eqb c 59 n10, ne-eqb c 63 n11)
+
+pub mark-high : (c : ℕ) → 0x80 ≤ c → markOf c ≡ kind.None
+mark-high c h =
+    mark-none c (omega arith) (omega arith) (omega arith) (omega arith) (omega arith) (omega arith) (omega arith) (omega arith) (omega arith) (omega arith) (omega arith) (omega arith)
+
+pub mark-small : (c : ℕ) → markOf c ≤ kind.Placeholder
+unfolding markOf
+mark-small c =
+    step c 32 (λ d. markOf d ≤ kind.Placeholder) (omega arith) (λ n0.
+    (step c 10 (λ d. markOf d ≤ kind.Placeholder) (omega arith) (λ n1.
+    (step c 13 (λ d. markOf d ≤ kind.Placeholder) (omega arith) (λ n2.
+    (step c 46 (λ d. markOf d ≤ kind.Placeholder) (omega arith) (λ n3.
+    (step c 44 (λ d. markOf d ≤ kind.Placeholder) (omega arith) (λ n4.
+    (step c 40 (λ d. markOf d ≤ kind.Placeholder) (omega arith) (λ n5.
+    (step c 41 (λ d. markOf d ≤ kind.Placeholder) (omega arith) (λ n6.
+    (step c 91 (λ d. markOf d ≤ kind.Placeholder) (omega arith) (λ n7.
+    (step c 93 (λ d. markOf d ≤ kind.Placeholder) (omega arith) (λ n8.
+    (step c 58 (λ d. markOf d ≤ kind.Placeholder) (omega arith) (λ n9.
+    (step c 59 (λ d. markOf d ≤ kind.Placeholder) (omega arith) (λ n10.
+    (step c 63 (λ d. markOf d ≤ kind.Placeholder) (omega arith) (λ n11.
+    rw (mark-none c n0 n1 n2 n3 n4 n5 n6 n7 n8 n9 n10 n11) (omega arith))))))))))))))))))))))))
+
+pub mark-state : (c : ℕ) (state : State) → stateAfter (markOf c) state ≡ state
+mark-state c state = rw (ne-eqb (markOf c) kind.Select (λ e. omega (arith, mark-small c)), ne-eqb (markOf c) kind.From (λ e. omega (arith, mark-small c)))
+
+pub mark-ascii : (t : List ℕ) (at : ℕ) → Readable t at → (markOf (getD t at 0) ≡ kind.None → ⊥) → Ascii t at
+mark-ascii t at r n = go (decLt (getD t at 0) 0x80)
+  where
+    go : Dec (getD t at 0 < 0x80) → Ascii t at
+    go (yes h) = record { readable = r; low = h }
+    go (no h) = absurd (n (mark-high (getD t at 0) (omega arith)))
+
+-- ---- what the rules choose
+module _ (w : Ways) (state : State) where
+  pub mark-rule : (c : ℕ) (cs : List ℕ) → (markOf c ≡ kind.None → ⊥) → ruleOf w state c cs ≡ Single (markOf c)
+  unfolding markOf ruleOf
+  mark-rule c cs h =
+      step c 32 (λ d. ruleOf w state d cs ≡ Single (markOf d)) refl (λ n0.
+      (step c 10 (λ d. ruleOf w state d cs ≡ Single (markOf d)) refl (λ n1.
+      (step c 13 (λ d. ruleOf w state d cs ≡ Single (markOf d)) refl (λ n2.
+      (step c 46 (λ d. ruleOf w state d cs ≡ Single (markOf d)) refl (λ n3.
+      (step c 44 (λ d. ruleOf w state d cs ≡ Single (markOf d)) refl (λ n4.
+      (step c 40 (λ d. ruleOf w state d cs ≡ Single (markOf d)) refl (λ n5.
+      (step c 41 (λ d. ruleOf w state d cs ≡ Single (markOf d)) refl (λ n6.
+      (step c 91 (λ d. ruleOf w state d cs ≡ Single (markOf d)) refl (λ n7.
+      (step c 93 (λ d. ruleOf w state d cs ≡ Single (markOf d)) refl (λ n8.
+      (step c 58 (λ d. ruleOf w state d cs ≡ Single (markOf d)) refl (λ n9.
+      (step c 59 (λ d. ruleOf w state d cs ≡ Single (markOf d)) refl (λ n10.
+      (step c 63 (λ d. ruleOf w state d cs ≡ Single (markOf d)) refl (λ n11.
+      absurd (h (mark-none c n0 n1 n2 n3 n4 n5 n6 n7 n8 n9 n10 n11)))))))))))))))))))))))))
+
+  mark-out : (star : Bool) (c : ℕ) (cs : List ℕ) → (markOf c ≡ kind.None → ⊥) → readOne w star state c cs ≡ took (markOf c) nothing 0
+  unfolding readOne byRule
+  mark-out star c cs n = rw (mark-rule c cs n)
+
+  pub mark-read : (star : Bool) (t : List ℕ) (at : ℕ) → Readable t at → (markOf (getD t at 0) ≡ kind.None → ⊥)
+      → Token (bare (markOf (getD t at 0))) (offset (at + 1)) ≡ readBy (readOne w star state) t at
+  mark-read star t at r n =
+      let a = mark-ascii t at r n in
+      let c = getD t at 0 in
+      let k = markOf c in
+      let cs = chars (drop (at + 1) t) in
+      let p = stepped-ascii t at (a .readable .here) (a .low) in
+      single-read t at a k ∙ read-at t at c (at + 1) p (λ c cs. took k nothing 0) ∙ ap (stepOf at (c ∷ cs)) (sym (mark-out star c cs n))
+      ∙ sym (read-at t at c (at + 1) p (readOne w star state))
