@@ -5,11 +5,10 @@
 -- mark-rule, mark-read     the rules choose the mark, whatever follows it and whatever was read before, and read it
 -- Assumes nothing.
 use mathlib.Core.Path.{_≡_, refl, sym, ap, _∙_}
-use mathlib.Core.Bool.{Bool, true, false, cond}
-use mathlib.Core.List.{List, [], _∷_}
-use Prim.Native.Nat.{ℕ, zero, suc, _+_, _≤_, _<_}
+use mathlib.Core.Bool.{Bool, true, false}
+use mathlib.Core.List.{List, _∷_}
+use Prim.Native.Nat.{ℕ, _+_, _≤_, _<_}
 use Prim.Native.Char.{code}
-use native.Mathlib.Nat.{add-zero}
 use native.Mathlib.Decide.{decLt}
 use native.Mathlib.Omega.{arith}
 use lib.Dec.{eqb}
@@ -19,26 +18,22 @@ use Rattle.chars.specs.Utf8.{chars}
 use Rattle.chars.specs.Steps.{offset}
 use Rattle.tokens.specs.Kinds as kind
 use Rattle.tokens.specs.Slots.{bare}
+use Rattle.tokens.proofs.Tabling.{getD-tabled}
 use Rattle.lexer.specs.declared.rule.State.{State}
 use Rattle.lexer.specs.declared.rule.Rule.the-variants.{Single}
 use Rattle.lexer.specs.declared.read.Step.the-variants.{Token}
 use Rattle.scans.specs.Ways.{Ways}
 use Rattle.scans.specs.Whole.{Readable}
 use Rattle.lexer.specs.Rules.{nothing, took, ruleOf, byRule, readOne, stateAfter}
-use Rattle.lexer.specs.Marks.{markOf, marksFrom, markTable}
+use Rattle.lexer.specs.Marks.{markOf, markTable}
 use Rattle.lexer.specs.Read.{stepOf, readBy, Ascii}
 use Rattle.scans.proofs.Characters.{stepped-ascii}
 use Rattle.lexer.proofs.Steps.{read-at, single-read}
 
 -- ---- the table
-getD-from : (c n j : ℕ) → j < n → getD (marksFrom c n) j 0 ≡ code "@" + markOf (c + j)
-getD-from c zero j h = absurd (omega arith)
-getD-from c (suc n) zero h = ap (λ (m : ℕ). code "@" + markOf m) (sym (add-zero c))
-getD-from c (suc n) (suc j) h = getD-from (suc c) n j (omega arith) ∙ ap (λ (m : ℕ). code "@" + markOf m) (omega arith)
-
 pub getD-marks : (c : ℕ) → c < 0x80 → getD markTable c 0 ≡ code "@" + markOf c
 unfolding markTable
-getD-marks c h = getD-from 0 0x80 c h ∙ ap (λ (m : ℕ). code "@" + markOf m) (omega arith)
+getD-marks c h = getD-tabled (λ m. code "@" + markOf m) 0 0x80 c h ∙ ap (λ (m : ℕ). code "@" + markOf m) (omega arith)
 
 -- ---- which characters are marks
 -- a number is this one, or it is not

@@ -1,8 +1,9 @@
 -- The marks of rule 4 as a table, which the code looks up before it goes through the rules. Assumes nothing.
-use Prim.Native.Nat.{ℕ, zero, suc, _+_}
+use Prim.Native.Nat.{ℕ, _+_}
 use Prim.Native.Char.{code}
-use mathlib.Core.List.{List, [], _∷_}
+use mathlib.Core.List.{List}
 use Rattle.tokens.specs.Kinds as kind
+use Rattle.tokens.specs.Tabled.{tabled}
 use Rattle.lexer.specs.declared.rule.Rule.{Rule}
 use Rattle.lexer.specs.declared.rule.Rule.the-variants.{Quoted, Line, Block, Single, Numbered, Run, Charset, Word, Number, Unknown}
 use Rattle.lexer.specs.Rules.{singles}
@@ -24,11 +25,6 @@ singleKind Unknown = kind.None
 unfoldable pub markOf : ℕ → ℕ
 markOf c = singleKind (singles c Unknown)
 
--- n characters from c on, each as a letter: `@` for None, `A` for the first kind
-abbrev pub marksFrom : ℕ → ℕ → List ℕ
-marksFrom c zero = []
-marksFrom c (suc n) = (code "@" + markOf c) ∷ marksFrom (suc c) n
-
--- for all of ASCII
+-- for each ASCII character a letter: `@` for None, `A` for the first kind
 unfoldable pub markTable : List ℕ
-markTable = marksFrom 0 0x80
+markTable = tabled (λ c. code "@" + markOf c) 0 0x80

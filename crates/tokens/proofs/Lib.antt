@@ -7,4 +7,5 @@ pub mod Parts
 pub mod Back
 pub mod Checking
 pub mod Rows
+pub mod Tabling
 mod Examples

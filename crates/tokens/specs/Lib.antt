@@ -6,3 +6,4 @@ pub mod Answers
 pub mod Checks
 pub mod Texts
 pub mod Fixed
+pub mod Tabled

@@ -1,6 +1,6 @@
--- Looking a text up: a guess by its packed letters, confirmed by the row's letters, is the definition's search.
+-- Looking a text up: a guess by its key, confirmed by the row's letters, is the definition's search.
 -- equal-is, equal-self, equal-step   the comparison
--- pack-step, getD-part               one letter of a text
+-- getD-part, part-past               one letter of a text, and none past its end
 -- guess-row                          a guess names a row of the table
 -- lookup-is                          guess and confirmation are the search
 -- lookup-long                        a text longer than any row is not known
@@ -14,7 +14,7 @@ use Prim.Native.Char.{code}
 use native.Mathlib.Numerals.{add-one}
 use native.Mathlib.Omega.{arith}
 use lib.Dec.{eqb, leb}
-use lib.ListN.{length, getD, take, drop, length-take, length-drop, length-map, drop-of-length-le}
+use lib.ListN.{length, getD, take, drop, length-take, length-drop, length-map, drop-of-length-le, List·getD-eq-default}
 use lib.Seq.{drop-cons, getD-take, getD-drop}
 use borrow.Author.Tests.{eq-eqb, eqb-true, ne-eqb, leb-true}
 use Rattle.chars.proofs.Bytes.{and-l, and-r}
@@ -23,7 +23,7 @@ use Rattle.tokens.specs.Texts.{Row, textOf, texts}
 use Rattle.words.specs.declared.guess.Sort.{Sort}
 use Rattle.words.specs.declared.guess.Sort.the-variants.{Words, Runs, Zeros}
 use Rattle.words.specs.declared.guess.Guess.{Guess}
-use Rattle.words.specs.Known.{lower, equal, find, words, runs, zeros, rowsOf, knownKind, letters, packed, guessIn, guessOf}
+use Rattle.words.specs.Known.{lower, equal, find, words, runs, zeros, rowsOf, knownKind, letters, keyOf, guessIn, guessOf}
 use Rattle.chars.proofs.Scalars.{clash}
 
 -- ---- the comparison
@@ -65,38 +65,35 @@ module _ (t : List ℕ) (at n : ℕ) (h : at + n ≤ length t) where
       let l : m < length (take n (drop at t)) = simp (length-take, length-drop) (omega arith) in
       getD-map (take n (drop at t)) m l ∙ ap lower (getD-take n (drop at t) m 0 k ∙ getD-drop at t m 0)
 
-  pub pack-step : (v m : ℕ) → m < n → packed v (drop m part) ≡ packed (v * 256 % 2 ^ 64 + lower (getD t (at + m) 0)) (drop (m + 1) part)
-  pack-step v m k = rw (add-one m, drop-cons part m 0 (omega (arith, part-length)), getD-part m k)
+  pub part-past : (m : ℕ) → n ≤ m → getD part m 0 ≡ 0
+  part-past m k = List·getD-eq-default part 0 (omega (arith, part-length))
 
-  pub pack-done : (v m : ℕ) → n ≤ m → packed v (drop m part) ≡ v
-  pack-done v m k = let l : length part ≤ m = omega (arith, part-length) in rw (drop-of-length-le part l)
-
--- ---- the tests of a table, passed by computation: each row's letters stand at its place, and no two rows pack alike
+-- ---- the tests of a table, passed by computation: each row's letters stand at its place, and no two rows have one key
 abbrev placed : ℕ → List Row → Bool
 placed i [] = true
 placed i (r ∷ rs) = equal (take (length (r .text)) (drop (i * 9) letters)) (r .text) && placed (i + 1) rs
 
 abbrev apart : ℕ → List Row → Bool
 apart v [] = true
-apart v (r ∷ rs) = not (eqb v (packed 0 (r .text))) && apart v rs
+apart v (r ∷ rs) = not (eqb v (keyOf (r .text))) && apart v rs
 
 abbrev distinct : List Row → Bool
 distinct [] = true
-distinct (r ∷ rs) = apart (packed 0 (r .text)) rs && distinct rs
+distinct (r ∷ rs) = apart (keyOf (r .text)) rs && distinct rs
 
 abbrev short : List Row → Bool
 short [] = true
 short (r ∷ rs) = leb (length (r .text)) 9 && short rs
 
--- no row has a text that packs to another number
-absent : (rs : List Row) (w : List ℕ) (v : ℕ) → apart v rs ≡ true → packed 0 w ≡ v → find rs w ≡ kind.None
+-- no row has a text of another key
+absent : (rs : List Row) (w : List ℕ) (v : ℕ) → apart v rs ≡ true → keyOf w ≡ v → find rs w ≡ kind.None
 absent [] w v e p = refl
-absent (r ∷ rs) w v e p = go (equal w (r .text)) refl (absent rs w v (and-r (not (eqb v (packed 0 (r .text)))) (apart v rs) e) p)
+absent (r ∷ rs) w v e p = go (equal w (r .text)) refl (absent rs w v (and-r (not (eqb v (keyOf (r .text)))) (apart v rs) e) p)
   where
     go : (b : Bool) → equal w (r .text) ≡ b → find rs w ≡ kind.None → cond b (r .kind) (find rs w) ≡ kind.None
     go true q ih =
-        let z : eqb v (packed 0 (r .text)) ≡ true = eq-eqb v (packed 0 (r .text)) (sym p ∙ ap (packed 0) (equal-is w (r .text) q)) in
-        clash (let y : not true ≡ true = rw z at (and-l (not (eqb v (packed 0 (r .text)))) (apart v rs) e) in cc)
+        let z : eqb v (keyOf (r .text)) ≡ true = eq-eqb v (keyOf (r .text)) (sym p ∙ ap keyOf (equal-is w (r .text) q)) in
+        clash (let y : not true ≡ true = rw z at (and-l (not (eqb v (keyOf (r .text)))) (apart v rs) e) in cc)
     go false q ih = ih
 
 -- what the code answers, of a text w and a guess
@@ -115,11 +112,11 @@ cond-same : {A : Type 0} (b : Bool) (x : A) → cond b x x ≡ x
 cond-same true x = refl
 cond-same false x = refl
 
-search-is : (rs : List Row) (i : ℕ) (w : List ℕ) → placed i rs ≡ true → distinct rs ≡ true → find rs w ≡ confirmed w (guessIn i rs (packed 0 w))
+search-is : (rs : List Row) (i : ℕ) (w : List ℕ) → placed i rs ≡ true → distinct rs ≡ true → find rs w ≡ confirmed w (guessIn i rs (keyOf w))
 search-is [] i w p d = sym (rw (cond-same (equal w (take (length w) (drop (0 * 9) letters))) kind.None) (cond-same (eqb 0 (length w)) kind.None))
 search-is (r ∷ rs) i w p d =
-    go (eqb (packed 0 w) (packed 0 (r .text))) refl (equal w (r .text)) refl
-    (search-is rs (i + 1) w (and-r (equal (take (length (r .text)) (drop (i * 9) letters)) (r .text)) (placed (i + 1) rs) p) (and-r (apart (packed 0 (r .text)) rs) (distinct rs) d))
+    go (eqb (keyOf w) (keyOf (r .text))) refl (equal w (r .text)) refl
+    (search-is rs (i + 1) w (and-r (equal (take (length (r .text)) (drop (i * 9) letters)) (r .text)) (placed (i + 1) rs) p) (and-r (apart (keyOf (r .text)) rs) (distinct rs) d))
   where
     here : take (length (r .text)) (drop (i * 9) letters) ≡ r .text
     here = equal-is _ (r .text) (and-l (equal (take (length (r .text)) (drop (i * 9) letters)) (r .text)) (placed (i + 1) rs) p)
@@ -135,14 +132,14 @@ search-is (r ∷ rs) i w p d =
         from true q = rw (← eqb-true (length (r .text)) (length w) q, here, e)
         from false q = refl
 
-    go : (b : Bool) → eqb (packed 0 w) (packed 0 (r .text)) ≡ b → (x : Bool) → equal w (r .text) ≡ x
-        → find rs w ≡ confirmed w (guessIn (i + 1) rs (packed 0 w))
-        → cond x (r .kind) (find rs w) ≡ confirmed w (cond b (guessed i r) (guessIn (i + 1) rs (packed 0 w)))
+    go : (b : Bool) → eqb (keyOf w) (keyOf (r .text)) ≡ b → (x : Bool) → equal w (r .text) ≡ x
+        → find rs w ≡ confirmed w (guessIn (i + 1) rs (keyOf w))
+        → cond x (r .kind) (find rs w) ≡ confirmed w (cond b (guessed i r) (guessIn (i + 1) rs (keyOf w)))
     go true q true y ih = sym (match (equal-is w (r .text) y))
     go true q false y ih =
-        absent rs w (packed 0 (r .text)) (and-l (apart (packed 0 (r .text)) rs) (distinct rs) d) (eqb-true (packed 0 w) (packed 0 (r .text)) q)
+        absent rs w (keyOf (r .text)) (and-l (apart (keyOf (r .text)) rs) (distinct rs) d) (eqb-true (keyOf w) (keyOf (r .text)) q)
         ∙ sym (miss y)
-    go false q true y ih = clash (let z : false ≡ true = sym q ∙ eq-eqb (packed 0 w) (packed 0 (r .text)) (ap (packed 0) (equal-is w (r .text) y)) in cc)
+    go false q true y ih = clash (let z : false ≡ true = sym q ∙ eq-eqb (keyOf w) (keyOf (r .text)) (ap keyOf (equal-is w (r .text) y)) in cc)
     go false q false y ih = ih
 
 too-long : (rs : List Row) (w : List ℕ) → short rs ≡ true → 9 < length w → find rs w ≡ kind.None
@@ -155,7 +152,7 @@ too-long (r ∷ rs) w e h = go (equal w (r .text)) refl (too-long rs w (and-r (l
 
 -- ---- the three tables
 module _ (w : List ℕ) where
-  pub lookup-is : (sort : Sort) → find (rowsOf sort) w ≡ confirmed w (guessOf sort (packed 0 w))
+  pub lookup-is : (sort : Sort) → find (rowsOf sort) w ≡ confirmed w (guessOf sort (keyOf w))
   lookup-is Words = unfold guessOf rowsOf in search-is words 0 w (unfold words runs zeros letters textOf texts in refl) (unfold words textOf texts in refl)
   lookup-is Runs = unfold guessOf rowsOf in search-is runs 37 w (unfold words runs zeros letters textOf texts in refl) (unfold runs in refl)
   lookup-is Zeros = unfold guessOf rowsOf in search-is zeros 54 w (unfold words runs zeros letters textOf texts in refl) (unfold zeros in refl)
@@ -167,7 +164,7 @@ module _ (w : List ℕ) where
 
 guess-in : (rs : List Row) (i v : ℕ) → i + length rs ≤ 56 → guessIn i rs v .0 < 56
 guess-in [] i v h = omega arith
-guess-in (r ∷ rs) i v h = go (eqb v (packed 0 (r .text))) (guess-in rs (i + 1) v (omega arith))
+guess-in (r ∷ rs) i v h = go (eqb v (keyOf (r .text))) (guess-in rs (i + 1) v (omega arith))
   where
     go : (b : Bool) → guessIn (i + 1) rs v .0 < 56
         → cond b (record { 0 = i; 1 = length (r .text); 2 = r .kind }) (guessIn (i + 1) rs v) .0 < 56

@@ -1,11 +1,11 @@
 -- The texts that have a kind of their own: 37 words, seventeen runs, and the beginnings of hexadecimal and binary numbers.
 -- Assumes nothing.
-use Prim.Native.Nat.{ℕ, zero, suc, _+_, _*_, _%_, _^_}
+use Prim.Native.Nat.{ℕ, zero, suc, _+_, _*_}
 use Prim.Native.Char.{code}
 use mathlib.Core.Bool.{Bool, true, false, cond, _&&_}
 use mathlib.Core.List.{List, [], _∷_, _++_, map}
 use lib.Dec.{eqb, leb}
-use lib.ListN.{length}
+use lib.ListN.{length, getD}
 use Rattle.tokens.specs.Kinds as kind
 use Rattle.tokens.specs.Texts.{Row, row, textOf}
 use Rattle.words.specs.declared.guess.Sort.{Sort}
@@ -96,16 +96,15 @@ laidOut (r ∷ rs) = padded rowWidth (r .text) ++ laidOut rs
 unfoldable pub letters : List ℕ
 letters = laidOut (words ++ runs ++ zeros)
 
--- the last letters of a text, as one number
-abbrev pub packed : ℕ → List ℕ → ℕ
-packed v [] = v
-packed v (b ∷ bs) = packed (v * 256 % 2 ^ 64 + b) bs
+-- the length of a text and its first two letters, as one number
+abbrev pub keyOf : List ℕ → ℕ
+keyOf text = length text * 0x10000 + getD text 0 0 * 0x100 + getD text 1 0
 
--- the row, counted from i on, whose text packs to v, with its length and its kind
+-- the row, counted from i on, whose text has the key, with its length and its kind
 abbrev pub guessIn : ℕ → List Row → ℕ → Guess
-guessIn i [] v = record { 0 = 0; 1 = 0; 2 = kind.None }
-guessIn i (r ∷ rs) v =
-    cond (eqb v (packed 0 (r .text))) (record { 0 = i; 1 = length (r .text); 2 = r .kind }) (guessIn (i + 1) rs v)
+guessIn i [] key = record { 0 = 0; 1 = 0; 2 = kind.None }
+guessIn i (r ∷ rs) key =
+    cond (eqb key (keyOf (r .text))) (record { 0 = i; 1 = length (r .text); 2 = r .kind }) (guessIn (i + 1) rs key)
 
 -- the tables stand in the order of their names
 abbrev pub firstRow : Sort → ℕ
@@ -113,6 +112,6 @@ firstRow Words = 0
 firstRow Runs = 37
 firstRow Zeros = 54
 
--- the row of a table whose text packs to v
+-- the row of a table whose text has the key
 unfoldable pub guessOf : Sort → ℕ → Guess
-guessOf sort v = guessIn (firstRow sort) (rowsOf sort) v
+guessOf sort key = guessIn (firstRow sort) (rowsOf sort) key

@@ -1,5 +1,5 @@
 // The texts that have a kind of their own (rules 7, 9 and 10): one table of fixed byte strings, and the lookup.
-// A guess by the last eight letters names the one row that the text can be, and the row's byte string confirms it.
+// A guess by the length and the first two letters names the one row that the text can be, and the row's byte string confirms it.
 use crate::guess::Sort;
 use crate::guess::guess_row;
 use chars::offset::Offset;
@@ -7,8 +7,8 @@ use tokens::kind;
 ghost use mathlib.Core.Path.{_≡_};
 ghost use mathlib.Core.List.{map};
 ghost use Prim.Native.Nat.{_+_, _-_, _*_, _≤_, _<_};
-ghost use lib.ListN.{length, take, drop};
-ghost use Rattle.words.specs.Known.{lower, equal, letters, packed, knownKind};
+ghost use lib.ListN.{length, getD, take, drop};
+ghost use Rattle.words.specs.Known.{lower, equal, letters, keyOf, knownKind};
 
 // How many letters a row has room for.
 const ROW: usize = 9;
@@ -33,18 +33,23 @@ fn lower(b: u8) -> u8
     }
 }
 
-// The last eight letters of a text, in lower case.
-fn pack(text: &[u8], at: Offset, count: usize) -> u64
+// A letter of a text, in lower case; 0 past its end.
+fn letter(text: &[u8], at: Offset, count: usize, m: usize) -> u32
     requires { ⌜ at .0 + count ≤ length (now text) ⌝ }
-    ensures { λ r. ⌜ r ≡ packed 0 (map lower (take count (drop (at .0) (now (text .entry))))) ⌝ }
+    ensures { λ r. ⌜ (r < 0x100) × (r ≡ getD (map lower (take count (drop (at .0) (now (text .entry))))) m 0) ⌝ }
 {
-    let mut v: u64 = 0;
-    let mut m = 0;
-    while m < count {
-        v = (v << 8) + (lower(text[at.0 + m]) as u64);
-        m += 1;
+    if m < count {
+        return lower(text[at.0 + m]) as u32;
     }
-    v
+    0
+}
+
+// The length of a text and its first two letters.
+fn key_of(text: &[u8], at: Offset, count: usize) -> u32
+    requires { ⌜ (count ≤ 9) × (at .0 + count ≤ length (now text)) ⌝ }
+    ensures { λ r. ⌜ r ≡ keyOf (map lower (take count (drop (at .0) (now (text .entry))))) ⌝ }
+{
+    ((count as u32) << 16) + (letter(text, at, count, 0) << 8) + letter(text, at, count, 1)
 }
 
 // Whether the letters of a text are those of a row.
@@ -73,7 +78,7 @@ pub fn known_kind(table: &[u8; 504], sort: Sort, text: &[u8], at: Offset, end: O
     if ROW < count {
         return kind::NONE;
     }
-    let g = guess_row(sort, pack(text, at, count));
+    let g = guess_row(sort, key_of(text, at, count));
     if g.1 != count {
         return kind::NONE;
     }

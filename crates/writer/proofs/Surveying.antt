@@ -24,20 +24,16 @@ use Rattle.tokens.specs.Texts.{textOf}
 use Rattle.tokens.proofs.Forms.{carries-in, carries-low, formed-carries, formed-plain}
 use Rattle.tokens.proofs.Places.{place-le}
 use Rattle.tokens.proofs.Rows.{text-small, text-none}
+use Rattle.tokens.proofs.Tabling.{getD-tabled}
 use Rattle.writer.specs.Written.{sliceOf, tokenText, cuts}
-use Rattle.writer.specs.Survey.{faulty, beside, digitsFrom, digits}
+use Rattle.writer.specs.Survey.{faulty, beside, digits}
 use Rattle.writer.proofs.ByKind.{quoted-low, quoted-high, below-or}
 use Rattle.writer.proofs.Cutting.{cuts-kind}
 
 -- ---- the table
-getD-from : (k n j : ℕ) → j < n → getD (digitsFrom k n) j 0 ≡ code "0" + beside (k + j)
-getD-from k zero j h = absurd (omega arith)
-getD-from k (suc n) zero h = ap (λ (m : ℕ). code "0" + beside m) (sym (add-zero k))
-getD-from k (suc n) (suc j) h = getD-from (suc k) n j (omega arith) ∙ ap (λ (m : ℕ). code "0" + beside m) (omega arith)
-
 pub getD-digits : (k : ℕ) → k ≤ kind.Unknown → getD digits k 0 ≡ code "0" + beside k
 unfolding digits
-getD-digits k h = getD-from kind.None (suc kind.Unknown) k (omega arith) ∙ ap (λ (m : ℕ). code "0" + beside m) (omega arith)
+getD-digits k h = getD-tabled (λ m. code "0" + beside m) kind.None (suc kind.Unknown) k (omega arith) ∙ ap (λ (m : ℕ). code "0" + beside m) (omega arith)
 
 pub beside-past : (k : ℕ) → kind.SingleQuoted < k → beside k ≡ 0
 unfolding beside

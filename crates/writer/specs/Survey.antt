@@ -2,12 +2,13 @@
 -- pass over a token list. The writer's own promise is Promise.antt. Assumes nothing.
 use mathlib.Core.Path.{_≡_}
 use mathlib.Core.Bool.{Bool, cond, _||_}
-use mathlib.Core.List.{List, [], _∷_}
-use Prim.Native.Nat.{ℕ, zero, suc, _+_}
+use mathlib.Core.List.{List}
+use Prim.Native.Nat.{ℕ, suc, _+_}
 use Prim.Native.Char.{code}
 use lib.ListN.{length}
 use Rattle.tokens.specs.declared.slot.Slot.{Slot}
 use Rattle.tokens.specs.Kinds as kind
+use Rattle.tokens.specs.Tabled.{tabled}
 use Rattle.tokens.specs.Slots.{tokensIn}
 use Rattle.tokens.specs.Formed.{malformed, firstPlace}
 use Rattle.tokens.specs.Texts.{textOf}
@@ -22,14 +23,9 @@ faulty text t = malformed t || cuts text t
 unfoldable pub beside : ℕ → ℕ
 beside k = length (textOf k) + cond (kind.isQuoted k) (length (textOf k)) 0
 
--- the same for n kinds from k on, as decimal digits
-abbrev pub digitsFrom : ℕ → ℕ → List ℕ
-digitsFrom k zero = []
-digitsFrom k (suc n) = (code "0" + beside k) ∷ digitsFrom (suc k) n
-
--- for all kinds
+-- the same for all kinds, as decimal digits
 unfoldable pub digits : List ℕ
-digits = digitsFrom kind.None (suc kind.Unknown)
+digits = tabled (λ k. code "0" + beside k) kind.None (suc kind.Unknown)
 
 -- one pass over n tokens: the first that may not be written, and the length of the text before it
 pub record Surveyed (text ws : List ℕ) (n : ℕ) (r : Seen) : Type 0 where

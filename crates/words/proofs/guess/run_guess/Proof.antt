@@ -1,4 +1,4 @@
--- `words::guess::run_guess` meets its contract: the numbers of its arms are the packed texts, by computation. Assumes nothing.
+-- `words::guess::run_guess` meets its contract: the numbers of its arms are the keys of the texts, by computation. Assumes nothing.
 use borrow.Author.Tests.{ne-eqb}
 use Rattle.words.specs.Known.{guessOf, rowsOf, runs}
 use Rattle.words.proofs.guess.run_guess.Statement.{statement}
@@ -74,7 +74,7 @@ returns-17 c = rw (c .match .keys17)
 
 returns-18 : tie.Need-returns-18
 unfolding guessOf rowsOf runs
-returns-18 c = rw (ne-eqb _ 0x3c3d3e (c .match .rest .0 .0 .0 .0 .0 .0 .0 .0 .0 .0 .0 .0 .0 .0 .0 .0 .1), ne-eqb _ 0x3e3d (c .match .rest .0 .0 .0 .0 .0 .0 .0 .0 .0 .0 .0 .0 .0 .0 .0 .1), ne-eqb _ 0x3c3d (c .match .rest .0 .0 .0 .0 .0 .0 .0 .0 .0 .0 .0 .0 .0 .0 .1), ne-eqb _ 0x3d3e (c .match .rest .0 .0 .0 .0 .0 .0 .0 .0 .0 .0 .0 .0 .0 .1), ne-eqb _ 0x3d3c (c .match .rest .0 .0 .0 .0 .0 .0 .0 .0 .0 .0 .0 .0 .1), ne-eqb _ 0x3c3e (c .match .rest .0 .0 .0 .0 .0 .0 .0 .0 .0 .0 .0 .1), ne-eqb _ 0x213d (c .match .rest .0 .0 .0 .0 .0 .0 .0 .0 .0 .0 .1), ne-eqb _ 0x3d3d (c .match .rest .0 .0 .0 .0 .0 .0 .0 .0 .0 .1), ne-eqb _ 0x3d (c .match .rest .0 .0 .0 .0 .0 .0 .0 .0 .1), ne-eqb _ 0x3e (c .match .rest .0 .0 .0 .0 .0 .0 .0 .1), ne-eqb _ 0x3c (c .match .rest .0 .0 .0 .0 .0 .0 .1), ne-eqb _ 0x3c3c (c .match .rest .0 .0 .0 .0 .0 .1), ne-eqb _ 0x3e3e (c .match .rest .0 .0 .0 .0 .1), ne-eqb _ 0x26 (c .match .rest .0 .0 .0 .1), ne-eqb _ 0x7c (c .match .rest .0 .0 .1), ne-eqb _ 0x233e (c .match .rest .0 .1), ne-eqb _ 0x233e3e (c .match .rest .1))
+returns-18 c = rw (ne-eqb _ 0x033c3d (c .match .rest .0 .0 .0 .0 .0 .0 .0 .0 .0 .0 .0 .0 .0 .0 .0 .0 .1), ne-eqb _ 0x023e3d (c .match .rest .0 .0 .0 .0 .0 .0 .0 .0 .0 .0 .0 .0 .0 .0 .0 .1), ne-eqb _ 0x023c3d (c .match .rest .0 .0 .0 .0 .0 .0 .0 .0 .0 .0 .0 .0 .0 .0 .1), ne-eqb _ 0x023d3e (c .match .rest .0 .0 .0 .0 .0 .0 .0 .0 .0 .0 .0 .0 .0 .1), ne-eqb _ 0x023d3c (c .match .rest .0 .0 .0 .0 .0 .0 .0 .0 .0 .0 .0 .0 .1), ne-eqb _ 0x023c3e (c .match .rest .0 .0 .0 .0 .0 .0 .0 .0 .0 .0 .0 .1), ne-eqb _ 0x02213d (c .match .rest .0 .0 .0 .0 .0 .0 .0 .0 .0 .0 .1), ne-eqb _ 0x023d3d (c .match .rest .0 .0 .0 .0 .0 .0 .0 .0 .0 .1), ne-eqb _ 0x013d00 (c .match .rest .0 .0 .0 .0 .0 .0 .0 .0 .1), ne-eqb _ 0x013e00 (c .match .rest .0 .0 .0 .0 .0 .0 .0 .1), ne-eqb _ 0x013c00 (c .match .rest .0 .0 .0 .0 .0 .0 .1), ne-eqb _ 0x023c3c (c .match .rest .0 .0 .0 .0 .0 .1), ne-eqb _ 0x023e3e (c .match .rest .0 .0 .0 .0 .1), ne-eqb _ 0x012600 (c .match .rest .0 .0 .0 .1), ne-eqb _ 0x017c00 (c .match .rest .0 .0 .1), ne-eqb _ 0x02233e (c .match .rest .0 .1), ne-eqb _ 0x03233e (c .match .rest .1))
 
 pub run-guess-spec : {M : Type 1} → statement M
 run-guess-spec = tie.close (tie.spec returns returns-2 returns-3 returns-4 returns-5 returns-6 returns-7 returns-8 returns-9 returns-10 returns-11 returns-12 returns-13 returns-14 returns-15 returns-16 returns-17 returns-18)

@@ -1,4 +1,4 @@
--- `words::guess::zero_guess` meets its contract: the numbers of its arms are the packed texts, by computation. Assumes nothing.
+-- `words::guess::zero_guess` meets its contract: the numbers of its arms are the keys of the texts, by computation. Assumes nothing.
 use borrow.Author.Tests.{ne-eqb}
 use Rattle.words.specs.Known.{guessOf, rowsOf, zeros}
 use Rattle.words.proofs.guess.zero_guess.Statement.{statement}
@@ -14,7 +14,7 @@ returns-2 c = rw (c .match .keys2)
 
 returns-3 : tie.Need-returns-3
 unfolding guessOf rowsOf zeros
-returns-3 c = rw (ne-eqb _ 0x3078 (c .match .rest .0 .1), ne-eqb _ 0x3062 (c .match .rest .1))
+returns-3 c = rw (ne-eqb _ 0x023078 (c .match .rest .0 .1), ne-eqb _ 0x023062 (c .match .rest .1))
 
 pub zero-guess-spec : {M : Type 1} → statement M
 zero-guess-spec = tie.close (tie.spec returns returns-2 returns-3)

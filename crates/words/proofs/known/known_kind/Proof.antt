@@ -30,8 +30,8 @@ returns c =
     let s = c .before .before .before .before in
     sym (lookup-long (text-of s) (s .args .sort) (omega (arith, text-length s, c .if1 .taken)))
 
-pack-requires : tie.Need-pack-requires
-pack-requires c κs = omega (arith, c .before .before .before .before .pre)
+key-of-requires : tie.Need-key-of-requires
+key-of-requires c κs = omega (arith, c .before .before .before .before .pre)
 
 guess-row-requires : tie.Need-guess-row-requires
 guess-row-requires c κs = search needs
@@ -42,7 +42,7 @@ found : (g : tie.After-guess-row) → let s = g .before .before .before .before 
 unfolding knownKind
 found g =
     let s = g .before .before .before .before .before .before in
-    lookup-is (text-of s) (s .args .sort) ∙ ap (confirmed (text-of s)) (sym (g .guess-row .ensures ∙ ap (guessOf (s .args .sort)) (g .before .pack .ensures)))
+    lookup-is (text-of s) (s .args .sort) ∙ ap (confirmed (text-of s)) (sym (g .guess-row .ensures ∙ ap (guessOf (s .args .sort)) (g .before .key-of .ensures)))
 
 returns-2 : tie.Need-returns-2
 returns-2 c =
@@ -54,7 +54,7 @@ same-letters-requires : tie.Need-same-letters-requires
 same-letters-requires c κs =
     let g = c .before .before in
     let s = g .before .before .before .before .before .before in
-    (s .pre .0, (rw (g .guess-row .ensures) (guess-row (s .args .sort) (g .before .pack .result)), omega arith, omega (arith, s .pre .1)))
+    (s .pre .0, (rw (g .guess-row .ensures) (guess-row (s .args .sort) (g .before .key-of .result)), omega arith, omega (arith, s .pre .1)))
 
 -- what the letters said
 said : (g : tie.After-same-letters) → let s = g .before .before .before .before .before .before .before .before .before in
@@ -74,4 +74,4 @@ returns-4 c = sym (said (c .before) ∙ rw (c .if3 .left))
 
 pub known-kind-spec : {M : Type 1} → statement M
 known-kind-spec =
-    tie.close (tie.spec sub-count returns pack-requires guess-row-requires returns-2 same-letters-requires returns-3 returns-4)
+    tie.close (tie.spec sub-count returns key-of-requires guess-row-requires returns-2 same-letters-requires returns-3 returns-4)
