@@ -36,6 +36,7 @@ static LISTS: [[AtomicU64; KINDS]; 3] = [const { [const { AtomicU64::new(0) }; K
 static IN_STATE: [[AtomicU64; STATES.len()]; KINDS] = [const { [const { AtomicU64::new(0) }; STATES.len()] }; KINDS];
 static ANSWERS: [[AtomicU64; REFUSALS.len()]; 4] = [const { [const { AtomicU64::new(0) }; REFUSALS.len()] }; 4];
 
+// The number of a token's kind.
 fn kind_of(token: &Token) -> usize {
     tokens::words(token)[0] as usize
 }
@@ -119,6 +120,7 @@ impl Checks {
     }
 }
 
+// A line of a table.
 fn row(cells: &[String]) {
     println!("| {} |", cells.join(" | "));
 }
@@ -137,6 +139,7 @@ fn cases(checks: &mut Checks, places: &[Counted], of: &str) -> String {
     cases.map(cell).collect::<Vec<_>>().join("; ")
 }
 
+// The reading rules, with the known runs and words by themselves.
 fn rules(checks: &mut Checks, places: &[Counted]) {
     titles(&["reading rule", "taken", "cases"]);
     for rule in ["1", "2", "3", "4", "5", "6", "7", KNOWN_RUNS, "8", "9", KNOWN_WORDS, "10", "11", SCANS] {
@@ -146,6 +149,7 @@ fn rules(checks: &mut Checks, places: &[Counted]) {
     println!();
 }
 
+// The arms by state, then the choices inside.
 fn arms(checks: &mut Checks, places: &[Counted]) {
     titles(&[&["arm", "kinds, and what it does"], &STATES[..]].concat());
     for (number, ((name, _, states), counts)) in (1..).zip(ARMS.iter().zip(&counted::ARMS)) {
@@ -182,6 +186,7 @@ fn kinds_in_states(checks: &mut Checks) {
     println!("each of the {KINDS} kinds in each of the {} states of the sanitiser, the fewest: {}, {}\n", STATES.len(), fewest.1, shown(fewest.0));
 }
 
+// The answers by call and refusal.
 fn answers(checks: &mut Checks) {
     titles(&[&["call"], &REFUSALS[..]].concat());
     for ((call, refusals), counts) in CALLS.iter().zip(&ANSWERS) {
@@ -195,7 +200,7 @@ fn answers(checks: &mut Checks) {
     println!();
 }
 
-// None and Ellipsis are the sanitiser's own: no text is read as one of them.
+// The kinds by list. None and Ellipsis are the sanitiser's own: no text is read as one of them.
 fn kinds(checks: &mut Checks) {
     titles(&["kind", "name", "read", "given to the sanitiser", "given to the writer"]);
     for kind in 0..=kind::UNKNOWN {

@@ -12,12 +12,6 @@ use std::process::ExitCode;
 
 const MARK: &str = " // counted";
 
-// The lines of an arm's head, from the one at `first` to the one with the arrow.
-fn head(lines: &[&str], first: usize) -> Result<usize, String> {
-    let arrow = (first..lines.len()).find(|&at| is_arrow(lines[at]));
-    arrow.ok_or_else(|| format!("no arrow after line {}", first + 1))
-}
-
 // Whether a line has an arm's arrow.
 fn is_arrow(line: &str) -> bool {
     line.contains(" =>")
@@ -32,58 +26,91 @@ fn guarded(head: &str, count: &str) -> String {
     format!("{pattern} if {guard}{count} => unreachable!(),")
 }
 
-// A file with its counters; `first` is the number of its first place.
-fn counted(source: &str, places: &[Place], first: usize) -> Result<String, String> {
-    let lines: Vec<&str> = source.lines().collect();
-    if lines.iter().any(|line| line.ends_with(MARK)) {
-        return Err(format!("the source has a line that ends in `{MARK}`"));
+// A file of the Rust's: its lines, what goes before and after each, and whether it is an arm with a counter.
+// The places are looked for in order, each from the line `next` on; `last` is the last line of the one found.
+struct File<'a> {
+    lines: Vec<&'a str>,
+    before: Vec<Vec<String>>,
+    after: Vec<Vec<String>>,
+    with_counter: Vec<bool>,
+    last: usize,
+    next: usize,
+}
+
+impl File<'_> {
+    // Nothing put in yet.
+    fn new(source: &str) -> File<'_> {
+        let lines: Vec<&str> = source.lines().collect();
+        let many = lines.len();
+        File { lines, before: vec![Vec::new(); many], after: vec![Vec::new(); many], with_counter: vec![false; many], last: 0, next: 0 }
     }
-    // what goes before and after each line
-    let mut before = vec![Vec::new(); lines.len()];
-    let mut after = vec![Vec::new(); lines.len()];
-    let mut with_counter = vec![false; lines.len()];
-    let mut last = 0;
-    let mut next = 0;
-    for (number, place) in (first..).zip(places) {
+
+    // The next line that starts as a place does.
+    fn find(&mut self, start: &str) -> Result<usize, String> {
+        let found = (self.next..self.lines.len()).find(|&at| self.lines[at].trim_start().starts_with(start));
+        self.last = found.ok_or_else(|| format!("no line after line {} that starts with `{start}`", self.next))?;
+        self.next = self.last + 1;
+        Ok(self.last)
+    }
+
+    // Before the arm that starts as a place does, which may take more lines than one.
+    fn put_arm(&mut self, start: &str, count: &str) -> Result<(), String> {
+        let first = self.find(start)?;
+        let arrow = (first..self.lines.len()).find(|&at| is_arrow(self.lines[at]));
+        let arrow = arrow.ok_or_else(|| format!("no arrow from line {} on", first + 1))?;
+        self.with_counter[arrow] = true;
+        let head = self.lines[first..=arrow].iter().map(|line| line.trim()).collect::<Vec<_>>().join(" ");
+        self.before[first].push(guarded(head.split(" =>").next().unwrap_or_default(), count));
+        // the block may open on the next line
+        self.last = arrow + usize::from(self.lines[arrow].ends_with("=>"));
+        self.next = self.last + 1;
+        Ok(())
+    }
+
+    // A place's counter.
+    fn put(&mut self, number: usize, place: &Place) -> Result<(), String> {
         let here = format!("crate::counted::here({number})");
+        let text = match place.how {
+            How::Arm => return self.put_arm(&place.at, &here),
+            How::InState(arm) => return self.put_arm(&place.at, &format!("crate::counted::arm({arm}, state.number())")),
+            How::Block => format!("{here};"),
+            How::When(condition) | How::Also(condition) => format!("if {condition} {{ {here}; }}"),
+            How::Line(text) => text.to_string(),
+        };
         if !matches!(place.how, How::Also(_)) {
-            let found = (next..lines.len()).find(|&at| lines[at].trim_start().starts_with(&place.at));
-            let found = found.ok_or_else(|| format!("no line after line {next} that starts with `{}`", place.at))?;
-            last = found;
-            if let How::Arm | How::InState(_) = place.how {
-                last = head(&lines, found)?;
-                with_counter[last] = true;
-                let text = lines[found..=last].iter().map(|line| line.trim()).collect::<Vec<_>>().join(" ");
-                let text = text.split(" =>").next().unwrap_or_default();
-                let count = if let How::InState(arm) = place.how { format!("crate::counted::arm({arm}, state.number())") } else { here.clone() };
-                before[found].push(guarded(text, &count));
-                // the head of a block that stands on the next line
-                if lines[last].ends_with("=>") {
-                    last += 1;
-                }
-            }
-            next = last + 1;
+            self.find(&place.at)?;
         }
-        let opens = lines[last].ends_with('{');
-        match place.how {
-            How::Arm | How::InState(_) => {}
-            How::Block if !opens => return Err(format!("line {} opens no block", last + 1)),
-            How::Block => after[last].push(format!("{here};")),
-            How::When(condition) | How::Also(condition) => after[last].push(format!("if {condition} {{ {here}; }}")),
-            How::Line(text) => after[last].push(text.to_string()),
+        if matches!(place.how, How::Block) && !self.lines[self.last].ends_with('{') {
+            return Err(format!("line {} opens no block", self.last + 1));
         }
+        self.after[self.last].push(text);
+        Ok(())
     }
-    // in a file with counters each arm has one; the kinds, of writer.rs, the driver counts
+
+    // The file with its counters.
+    fn written(&self) -> String {
+        let mut copy = String::new();
+        for (at, line) in self.lines.iter().enumerate() {
+            self.before[at].iter().for_each(|text| copy += &format!("{text}{MARK}\n"));
+            copy += &format!("{line}\n");
+            self.after[at].iter().for_each(|text| copy += &format!("{text}{MARK}\n"));
+        }
+        copy
+    }
+}
+
+// A file's text with its counters; `first` is the number of its first place.
+fn counted(source: &str, places: &[Place], first: usize) -> Result<String, String> {
+    let mut file = File::new(source);
+    for (number, place) in (first..).zip(places) {
+        file.put(number, place)?;
+    }
+    // in a file with counters each arm has one; the kinds, which are the arms of writer.rs, the driver counts
     let counts = places.iter().any(|place| !matches!(place.how, How::Line(_)));
-    if let Some(arm) = (0..lines.len()).find(|&at| counts && is_arrow(lines[at]) && !with_counter[at]) {
-        return Err(format!("line {} has an arm without a counter: {}", arm + 1, lines[arm].trim()));
+    if let Some(arm) = (0..file.lines.len()).find(|&at| counts && is_arrow(file.lines[at]) && !file.with_counter[at]) {
+        return Err(format!("line {} has an arm without a counter: {}", arm + 1, file.lines[arm].trim()));
     }
-    let mut copy = String::new();
-    for (at, line) in lines.iter().enumerate() {
-        before[at].iter().for_each(|text| copy += &format!("{text}{MARK}\n"));
-        copy += &format!("{line}\n");
-        after[at].iter().for_each(|text| copy += &format!("{text}{MARK}\n"));
-    }
+    let copy = file.written();
     let without: String = copy.split_inclusive('\n').filter(|line| !line.trim_end().ends_with(MARK)).collect();
     if without != source {
         return Err("the copy without its counters is not the source".to_string());
@@ -91,6 +118,7 @@ fn counted(source: &str, places: &[Place], first: usize) -> Result<String, Strin
     Ok(copy)
 }
 
+// Writes the copy of each file, and the counters beside them.
 fn write(source: &Path, out: &Path) -> Result<(), String> {
     std::fs::create_dir_all(out).map_err(|error| error.to_string())?;
     let mut first = 0;

@@ -24,6 +24,7 @@ pub enum States {
 }
 
 impl States {
+    // Whether a state is among them.
     pub fn has(&self, state: &str) -> bool {
         match self {
             States::Any => true,

@@ -1,5 +1,6 @@
 // The places of the Rust's source that are counted: each reading rule of document 01 with its cases, and the 32 arms of the sanitiser with the
-// choices inside. bin/counted.rs puts a counter at each, coverage.rs prints the counts; both know a place by its number in `places`.
+// choices inside. bin/counted.rs puts a counter at each, coverage.rs prints the counts; both know a place by its number,
+// from 0 on in the order of `files`.
 
 pub mod arms;
 pub mod rules;
@@ -43,18 +44,22 @@ fn arm(of: &'static str, case: &str, at: &str) -> Place {
     place(of, case, at, How::Arm)
 }
 
+// The head of a block.
 fn block(of: &'static str, case: &str, at: &str) -> Place {
     place(of, case, at, How::Block)
 }
 
+// After a line, where a condition holds.
 fn when(of: &'static str, case: &str, at: &str, condition: &'static str) -> Place {
     place(of, case, at, How::When(condition))
 }
 
+// The same after the line found last.
 fn also(of: &'static str, case: &str, condition: &'static str) -> Place {
     place(of, case, "", How::Also(condition))
 }
 
+// A line that counts nothing.
 fn line(at: &str, text: &'static str) -> Place {
     place("", "", at, How::Line(text))
 }

@@ -26,6 +26,7 @@ pub fn lexer() -> Vec<Place> {
     [scans(), quotes(), comments(), singles(), arithmetic(), runs(), charset(), words(), numbers(), unknown()].into_iter().flatten().collect()
 }
 
+// The two functions that scan.
 fn scans() -> Vec<Place> {
     vec![
         block(SCANS, "a scan to the end", "if self.pos >= self.len {"),
@@ -39,6 +40,7 @@ fn scans() -> Vec<Place> {
     ]
 }
 
+// Rule 1.
 fn quotes() -> Vec<Place> {
     vec![head("1", "backtick", "'`' =>"), head("1", "`'`", "'\\'' =>"), head("1", "`\"`", "'\"' =>")]
 }
