@@ -4,6 +4,8 @@
 // The Rust does not say where it stopped. The offset is worked out from its own tokens: each takes the bytes of its kind's text, of its
 // slice, or of its character, and a quoted text its quotes; walked from 0 they end at the stop. Each slice must start where the walk is, and
 // where the walk ends before the text does, one of the characters of rule 7 must stand there.
+#[cfg(counted)]
+use crate::coverage::{self, Call, Lists};
 use crate::ours::{self, Answer};
 use crate::random::Random;
 use crate::report::{hex, Report};
@@ -75,6 +77,8 @@ fn expected(widths: &Widths, text: &[u8], words: usize) -> (Answer, Vec<u32>) {
         Err(error) => return (refused(2, error.valid_up_to()), slots),
     };
     let read = sql_lexer::lex(text.to_string()).tokens;
+    #[cfg(counted)]
+    coverage::list(Lists::Read, &read);
     if read.len() > words / WORDS {
         return (refused(3, read.len()), slots);
     }
@@ -98,6 +102,8 @@ impl Run {
         let answer = ours::lex(text, &mut self.slots);
         let (rust, slots) = expected(&self.widths, text, words);
         self.seen[rust.refusal as usize] += 1;
+        #[cfg(counted)]
+        coverage::answer(Call::Lex, rust.refusal);
         self.stopped += u64::from(rust.refusal == 0 && (rust.stop as usize) < text.len());
         let ours = (answer, &self.slots);
         self.report.same(ours, (rust, &slots), || format!("{} words {words}", hex(&text[..text.len().min(60)])));
