@@ -16,6 +16,7 @@ use tokens::slot::Slot;
 use tokens::slot::bare;
 use tokens::slot::put;
 use tokens::slot::whole_slots;
+use words::known::LETTERS;
 use words::known::letter_table;
 ghost use mathlib.Core.Path.{_≡_};
 ghost use Prim.Native.Nat.{_≤_};
@@ -51,7 +52,13 @@ fn keep(slots: &mut [u32], upto: usize, place: Place, slot: Slot)
 }
 
 // Counts all tokens, and stores those whose place is below `upto`.
-fn walk(table: &[u8; 504], marks: &[u8; 128], text: &[u8], slots: &mut [u32], upto: usize) -> Walked
+fn walk(
+    table: &[u8; LETTERS],
+    marks: &[u8; 128],
+    text: &[u8],
+    slots: &mut [u32],
+    upto: usize,
+) -> Walked
     requires { ⌜ (now table ≡ letters) × (now marks ≡ markTable) ⌝ }
     requires { ⌜ Whole (now text) 0 ⌝ }
     requires { ⌜ upto ≤ room (now slots) ⌝ }

@@ -16,6 +16,7 @@ use tokens::kind;
 use tokens::slot::Slot;
 use tokens::slot::bare;
 use words::guess::Sort;
+use words::known::LETTERS;
 use words::known::known_kind;
 use words::known::zero_kind;
 ghost use mathlib.Core.Path.{_≡_};
@@ -110,7 +111,7 @@ fn read_numbered(text: &[u8], at: Offset) -> Step
 }
 
 // Rule 7: a run that is not recognised stops the reading.
-fn read_run(table: &[u8; 504], text: &[u8], at: Offset) -> Step
+fn read_run(table: &[u8; LETTERS], text: &[u8], at: Offset) -> Step
     requires { ⌜ now table ≡ letters ⌝ }
     requires { ⌜ Ascii (now text) (at .0) ⌝ }
     ensures { λ r. ⌜ r ≡ readBy run (now (text .entry)) (at .0) ⌝ }
@@ -134,7 +135,7 @@ fn read_charset(text: &[u8], at: Offset) -> Step
 }
 
 // Rule 9: the first character goes on in a word as well.
-fn read_word(table: &[u8; 504], text: &[u8], at: Offset) -> Step
+fn read_word(table: &[u8; LETTERS], text: &[u8], at: Offset) -> Step
     requires { ⌜ now table ≡ letters ⌝ }
     requires { ⌜ Leads (startsWord pinned) (now text) (at .0) ⌝ }
     ensures { λ r. ⌜ r ≡ readBy (word pinned) (now (text .entry)) (at .0) ⌝ }
@@ -159,7 +160,7 @@ fn number_from(text: &[u8], at: Offset) -> Offset
     at
 }
 
-fn read_number(table: &[u8; 504], text: &[u8], at: Offset) -> Step
+fn read_number(table: &[u8; LETTERS], text: &[u8], at: Offset) -> Step
     requires { ⌜ now table ≡ letters ⌝ }
     requires { ⌜ Leads (startsNumber pinned) (now text) (at .0) ⌝ }
     ensures { λ r. ⌜ r ≡ readBy (number pinned) (now (text .entry)) (at .0) ⌝ }
@@ -192,7 +193,7 @@ fn read_unknown(text: &[u8], at: Offset) -> Step
 }
 
 // The token at an offset.
-pub fn read_one(table: &[u8; 504], text: &[u8], at: Offset, state: State) -> Step
+pub fn read_one(table: &[u8; LETTERS], text: &[u8], at: Offset, state: State) -> Step
     requires { ⌜ now table ≡ letters ⌝ }
     requires { ⌜ Readable (now text) (at .0) ⌝ }
     ensures { λ r. ⌜ r ≡ readBy (readOne pinned (starBefore (now (text .entry)) (at .0)) state) (now (text .entry)) (at .0) ⌝ }

@@ -8,13 +8,13 @@
 -- Assumes nothing.
 use mathlib.Core.Path.{_≡_, refl, sym, ap, _∙_}
 use mathlib.Core.Bool.{Bool, true, false, cond, not, _&&_}
-use mathlib.Core.List.{List, [], _∷_, map}
+use mathlib.Core.List.{List, [], _∷_, _++_, map}
 use Prim.Native.Nat.{ℕ, zero, suc, _+_, _*_, _%_, _^_, _≤_, _<_}
 use Prim.Native.Char.{code}
 use native.Mathlib.Numerals.{add-one}
 use native.Mathlib.Omega.{arith}
 use lib.Dec.{eqb, leb}
-use lib.ListN.{length, getD, take, drop, length-take, length-drop, length-map, drop-of-length-le, List·getD-eq-default}
+use lib.ListN.{length, getD, take, drop, length-take, length-drop, length-map, length-append, drop-of-length-le, List·getD-eq-default}
 use lib.Seq.{drop-cons, getD-take, getD-drop}
 use borrow.Author.Tests.{eq-eqb, eqb-true, ne-eqb, leb-true}
 use Rattle.chars.proofs.Bytes.{and-l, and-r}
@@ -23,7 +23,7 @@ use Rattle.tokens.specs.Texts.{Row, textOf, texts}
 use Rattle.words.specs.declared.guess.Sort.{Sort}
 use Rattle.words.specs.declared.guess.Sort.the-variants.{Words, Runs, Zeros}
 use Rattle.words.specs.declared.guess.Guess.{Guess}
-use Rattle.words.specs.Known.{lower, equal, find, words, runs, zeros, rowsOf, knownKind, letters, keyOf, guessIn, guessOf}
+use Rattle.words.specs.Known.{lower, equal, find, words, runs, zeros, rowsOf, knownKind, laidOut, letters, keyOf, guessIn, firstLetter, guessOf}
 use Rattle.chars.proofs.Scalars.{clash}
 
 -- ---- the comparison
@@ -71,7 +71,7 @@ module _ (t : List ℕ) (at n : ℕ) (h : at + n ≤ length t) where
 -- ---- the tests of a table, passed by computation: each row's letters stand at its place, and no two rows have one key
 abbrev placed : ℕ → List Row → Bool
 placed i [] = true
-placed i (r ∷ rs) = equal (take (length (r .text)) (drop (i * 9) letters)) (r .text) && placed (i + 1) rs
+placed i (r ∷ rs) = equal (take (length (r .text)) (drop i letters)) (r .text) && placed (i + length (r .text)) rs
 
 abbrev apart : ℕ → List Row → Bool
 apart v [] = true
@@ -98,10 +98,10 @@ absent (r ∷ rs) w v e p = go (equal w (r .text)) refl (absent rs w v (and-r (n
 
 -- what the code answers, of a text w and a guess
 abbrev pub confirmed : List ℕ → Guess → ℕ
-confirmed w g = cond (eqb (g .1) (length w)) (cond (equal w (take (length w) (drop (g .0 * 9) letters))) (g .2) kind.None) kind.None
+confirmed w g = cond (eqb (g .1) (length w)) (cond (equal w (take (length w) (drop (g .0) letters))) (g .2) kind.None) kind.None
 
 pub confirmed-at : (w : List ℕ) (g : Guess) (n : ℕ) → length w ≡ n → g .1 ≡ n
-    → confirmed w g ≡ cond (equal w (take n (drop (g .0 * 9) letters))) (g .2) kind.None
+    → confirmed w g ≡ cond (equal w (take n (drop (g .0) letters))) (g .2) kind.None
 confirmed-at w g n p q = rw (eq-eqb (g .1) (length w) (q ∙ sym p), p)
 
 -- the guess of a row
@@ -113,13 +113,13 @@ cond-same true x = refl
 cond-same false x = refl
 
 search-is : (rs : List Row) (i : ℕ) (w : List ℕ) → placed i rs ≡ true → distinct rs ≡ true → find rs w ≡ confirmed w (guessIn i rs (keyOf w))
-search-is [] i w p d = sym (rw (cond-same (equal w (take (length w) (drop (0 * 9) letters))) kind.None) (cond-same (eqb 0 (length w)) kind.None))
+search-is [] i w p d = sym (rw (cond-same (equal w (take (length w) (drop 0 letters))) kind.None) (cond-same (eqb 0 (length w)) kind.None))
 search-is (r ∷ rs) i w p d =
     go (eqb (keyOf w) (keyOf (r .text))) refl (equal w (r .text)) refl
-    (search-is rs (i + 1) w (and-r (equal (take (length (r .text)) (drop (i * 9) letters)) (r .text)) (placed (i + 1) rs) p) (and-r (apart (keyOf (r .text)) rs) (distinct rs) d))
+    (search-is rs (i + length (r .text)) w (and-r (equal (take (length (r .text)) (drop i letters)) (r .text)) (placed (i + length (r .text)) rs) p) (and-r (apart (keyOf (r .text)) rs) (distinct rs) d))
   where
-    here : take (length (r .text)) (drop (i * 9) letters) ≡ r .text
-    here = equal-is _ (r .text) (and-l (equal (take (length (r .text)) (drop (i * 9) letters)) (r .text)) (placed (i + 1) rs) p)
+    here : take (length (r .text)) (drop i letters) ≡ r .text
+    here = equal-is _ (r .text) (and-l (equal (take (length (r .text)) (drop i letters)) (r .text)) (placed (i + length (r .text)) rs) p)
 
     match : w ≡ r .text → confirmed w (guessed i r) ≡ r .kind
     match e = rw (e, eq-eqb (length (r .text)) (length (r .text)) refl, here, equal-self (r .text))
@@ -128,13 +128,13 @@ search-is (r ∷ rs) i w p d =
     miss e = from (eqb (length (r .text)) (length w)) refl
       where
         from : (b : Bool) → eqb (length (r .text)) (length w) ≡ b
-            → cond b (cond (equal w (take (length w) (drop (i * 9) letters))) (r .kind) kind.None) kind.None ≡ kind.None
+            → cond b (cond (equal w (take (length w) (drop i letters))) (r .kind) kind.None) kind.None ≡ kind.None
         from true q = rw (← eqb-true (length (r .text)) (length w) q, here, e)
         from false q = refl
 
     go : (b : Bool) → eqb (keyOf w) (keyOf (r .text)) ≡ b → (x : Bool) → equal w (r .text) ≡ x
-        → find rs w ≡ confirmed w (guessIn (i + 1) rs (keyOf w))
-        → cond x (r .kind) (find rs w) ≡ confirmed w (cond b (guessed i r) (guessIn (i + 1) rs (keyOf w)))
+        → find rs w ≡ confirmed w (guessIn (i + length (r .text)) rs (keyOf w))
+        → cond x (r .kind) (find rs w) ≡ confirmed w (cond b (guessed i r) (guessIn (i + length (r .text)) rs (keyOf w)))
     go true q true y ih = sym (match (equal-is w (r .text) y))
     go true q false y ih =
         absent rs w (keyOf (r .text)) (and-l (apart (keyOf (r .text)) rs) (distinct rs) d) (eqb-true (keyOf w) (keyOf (r .text)) q)
@@ -154,30 +154,31 @@ too-long (r ∷ rs) w e h = go (equal w (r .text)) refl (too-long rs w (and-r (l
 module _ (w : List ℕ) where
   pub lookup-is : (sort : Sort) → find (rowsOf sort) w ≡ confirmed w (guessOf sort (keyOf w))
   lookup-is Words = unfold guessOf rowsOf in search-is words 0 w (unfold words runs zeros letters textOf texts in refl) (unfold words textOf texts in refl)
-  lookup-is Runs = unfold guessOf rowsOf in search-is runs 37 w (unfold words runs zeros letters textOf texts in refl) (unfold runs in refl)
-  lookup-is Zeros = unfold guessOf rowsOf in search-is zeros 54 w (unfold words runs zeros letters textOf texts in refl) (unfold zeros in refl)
+  lookup-is Runs = unfold guessOf rowsOf in search-is runs _ w (unfold words runs zeros letters textOf texts in refl) (unfold runs in refl)
+  lookup-is Zeros = unfold guessOf rowsOf in search-is zeros _ w (unfold words runs zeros letters textOf texts in refl) (unfold zeros in refl)
 
   pub lookup-long : (sort : Sort) → 9 < length w → find (rowsOf sort) w ≡ kind.None
   lookup-long Words h = unfold rowsOf in too-long words w (unfold words textOf texts in refl) h
   lookup-long Runs h = unfold rowsOf in too-long runs w (unfold runs in refl) h
   lookup-long Zeros h = unfold rowsOf in too-long zeros w (unfold zeros in refl) h
 
-guess-in : (rs : List Row) (i v : ℕ) → i + length rs ≤ 56 → guessIn i rs v .0 < 56
-guess-in [] i v h = omega arith
-guess-in (r ∷ rs) i v h = go (eqb v (keyOf (r .text))) (guess-in rs (i + 1) v (omega arith))
+guess-in : (rs : List Row) (i v : ℕ) → guessIn i rs v .0 + guessIn i rs v .1 ≤ i + length (laidOut rs)
+guess-in [] i v = omega arith
+guess-in (r ∷ rs) i v = go (eqb v (keyOf (r .text))) (guess-in rs (i + length (r .text)) v)
   where
-    go : (b : Bool) → guessIn (i + 1) rs v .0 < 56
-        → cond b (record { 0 = i; 1 = length (r .text); 2 = r .kind }) (guessIn (i + 1) rs v) .0 < 56
-    go true e = omega arith
-    go false e = e
+    go : (b : Bool) → guessIn (i + length (r .text)) rs v .0 + guessIn (i + length (r .text)) rs v .1 ≤ i + length (r .text) + length (laidOut rs)
+        → let g = cond b (record { 0 = i; 1 = length (r .text); 2 = r .kind }) (guessIn (i + length (r .text)) rs v) in
+        g .0 + g .1 ≤ i + length (r .text ++ laidOut rs)
+    go true h = omega (arith, length-append (r .text) (laidOut rs))
+    go false h = omega (arith, length-append (r .text) (laidOut rs))
 
-pub guess-row : (sort : Sort) (v : ℕ) → guessOf sort v .0 < 56
-unfolding guessOf rowsOf
-guess-row Words v = guess-in words 0 v (unfold words in omega arith)
-guess-row Runs v = guess-in runs 37 v (unfold runs in omega arith)
-guess-row Zeros v = guess-in zeros 54 v (unfold zeros in omega arith)
+pub guess-row : (sort : Sort) (v : ℕ) → guessOf sort v .0 + guessOf sort v .1 ≤ length letters
+unfolding guessOf rowsOf letters words runs zeros textOf texts
+guess-row Words v = omega (arith, guess-in words 0 v)
+guess-row Runs v = omega (arith, guess-in runs (firstLetter Runs) v)
+guess-row Zeros v = omega (arith, guess-in zeros (firstLetter Zeros) v)
 
-pub letters-long : length letters ≡ 504
+pub letters-long : length letters ≡ 195
 unfolding letters words runs zeros textOf texts
 letters-long = refl
 

@@ -77,20 +77,10 @@ unfoldable pub knownKind : Sort → List ℕ → ℕ
 knownKind sort text = find (rowsOf sort) (map lower text)
 
 -- ---- how the code keeps the tables
--- the letters of a text, filled up with spaces to n
-abbrev pub padded : ℕ → List ℕ → List ℕ
-padded zero text = []
-padded (suc n) [] = code " " ∷ padded n []
-padded (suc n) (x ∷ xs) = x ∷ padded n xs
-
--- how many letters a row has room for
-abbrev pub rowWidth : ℕ
-rowWidth = 9
-
--- all rows, one after the other
+-- the letters of all rows, one after the other
 abbrev pub laidOut : List Row → List ℕ
 laidOut [] = []
-laidOut (r ∷ rs) = padded rowWidth (r .text) ++ laidOut rs
+laidOut (r ∷ rs) = r .text ++ laidOut rs
 
 -- the words, the runs and the numbers
 unfoldable pub letters : List ℕ
@@ -100,18 +90,18 @@ letters = laidOut (words ++ runs ++ zeros)
 abbrev pub keyOf : List ℕ → ℕ
 keyOf text = length text * 0x10000 + getD text 0 0 * 0x100 + getD text 1 0
 
--- the row, counted from i on, whose text has the key, with its length and its kind
+-- the row whose text has the key, where the letters of the rows start at i: its start, its length and its kind
 abbrev pub guessIn : ℕ → List Row → ℕ → Guess
 guessIn i [] key = record { 0 = 0; 1 = 0; 2 = kind.None }
 guessIn i (r ∷ rs) key =
-    cond (eqb key (keyOf (r .text))) (record { 0 = i; 1 = length (r .text); 2 = r .kind }) (guessIn (i + 1) rs key)
+    cond (eqb key (keyOf (r .text))) (record { 0 = i; 1 = length (r .text); 2 = r .kind }) (guessIn (i + length (r .text)) rs key)
 
 -- the tables stand in the order of their names
-abbrev pub firstRow : Sort → ℕ
-firstRow Words = 0
-firstRow Runs = 37
-firstRow Zeros = 54
+abbrev pub firstLetter : Sort → ℕ
+firstLetter Words = 0
+firstLetter Runs = length (laidOut words)
+firstLetter Zeros = length (laidOut words) + length (laidOut runs)
 
 -- the row of a table whose text has the key
 unfoldable pub guessOf : Sort → ℕ → Guess
-guessOf sort key = guessIn (firstRow sort) (rowsOf sort) key
+guessOf sort key = guessIn (firstLetter sort) (rowsOf sort) key

@@ -6,22 +6,24 @@ use chars::offset::Offset;
 use tokens::kind;
 ghost use mathlib.Core.Path.{_≡_};
 ghost use mathlib.Core.List.{map};
-ghost use Prim.Native.Nat.{_+_, _-_, _*_, _≤_, _<_};
+ghost use Prim.Native.Nat.{_+_, _-_, _≤_, _<_};
 ghost use lib.ListN.{length, getD, take, drop};
 ghost use Rattle.words.specs.Known.{lower, equal, letters, keyOf, knownKind};
 
-// How many letters a row has room for.
-const ROW: usize = 9;
+// How many letters the longest row has, and how many all rows have.
+const LONGEST: usize = 9;
 
-// A row for each known text: the words, the runs, the beginnings of numbers.
-const LETTERS: [u8; 504] =
-    *b"in       not      like     ilike    rlike    glob     match    regexp   then     else     select   from     where    and      or       update   set      insert   into     values   inner    join     on       limit    offset   between  array    binary   date     time     timestampx        b        n        null     true     false    <=>      >=       <=       =>       =<       <>       !=       ==       =        >        <        <<       >>       &        |        #>       #>>      0x       0b       ";
+pub const LETTERS: usize = 195;
+
+// A row for each known text, one after the other: the words, the runs, the beginnings of numbers.
+const TABLE: [u8; LETTERS] =
+    *b"innotlikeilikerlikeglobmatchregexpthenelseselectfromwhereandorupdatesetinsertintovaluesinnerjoinonlimitoffsetbetweenarraybinarydatetimetimestampxbnnulltruefalse<=>>=<==>=<<>!====><<<>>&|#>#>>0x0b";
 
 // The table, for the public call to lend: a constant is laid out anew wherever a function names it.
-pub fn letter_table() -> [u8; 504]
+pub fn letter_table() -> [u8; LETTERS]
     ensures { λ r. ⌜ r ≡ letters ⌝ }
 {
-    LETTERS
+    TABLE
 }
 
 fn lower(b: u8) -> u8
@@ -53,14 +55,14 @@ fn key_of(text: &[u8], at: Offset, count: usize) -> u32
 }
 
 // Whether the letters of a text are those of a row.
-fn same_letters(table: &[u8; 504], row: usize, text: &[u8], at: Offset, count: usize) -> bool
+fn same_letters(table: &[u8; LETTERS], start: usize, text: &[u8], at: Offset, count: usize) -> bool
     requires { ⌜ now table ≡ letters ⌝ }
-    requires { ⌜ (row < 56) × (count ≤ 9) × (at .0 + count ≤ length (now text)) ⌝ }
-    ensures { λ r. ⌜ r ≡ equal (map lower (take count (drop (at .0) (now (text .entry))))) (take count (drop (row * 9) letters)) ⌝ }
+    requires { ⌜ (start + count ≤ length letters) × (at .0 + count ≤ length (now text)) ⌝ }
+    ensures { λ r. ⌜ r ≡ equal (map lower (take count (drop (at .0) (now (text .entry))))) (take count (drop start letters)) ⌝ }
 {
     let mut m = 0;
     while m < count {
-        if lower(text[at.0 + m]) != table[row * ROW + m] {
+        if lower(text[at.0 + m]) != table[start + m] {
             return false;
         }
         m += 1;
@@ -69,13 +71,13 @@ fn same_letters(table: &[u8; 504], row: usize, text: &[u8], at: Offset, count: u
 }
 
 // The kind of a known text; None where it is none.
-pub fn known_kind(table: &[u8; 504], sort: Sort, text: &[u8], at: Offset, end: Offset) -> u32
+pub fn known_kind(table: &[u8; LETTERS], sort: Sort, text: &[u8], at: Offset, end: Offset) -> u32
     requires { ⌜ now table ≡ letters ⌝ }
     requires { ⌜ (at .0 ≤ end .0) × (end .0 ≤ length (now text)) ⌝ }
     ensures { λ r. ⌜ r ≡ knownKind sort (take (end .0 - at .0) (drop (at .0) (now (text .entry)))) ⌝ }
 {
     let count = end.0 - at.0;
-    if ROW < count {
+    if LONGEST < count {
         return kind::NONE;
     }
     let g = guess_row(sort, key_of(text, at, count));
@@ -89,7 +91,7 @@ pub fn known_kind(table: &[u8; 504], sort: Sort, text: &[u8], at: Offset, end: O
 }
 
 // Rule 10: the kind of the beginning of a number. Most numbers are none by their first byte.
-pub fn zero_kind(table: &[u8; 504], text: &[u8], at: Offset, end: Offset) -> u32
+pub fn zero_kind(table: &[u8; LETTERS], text: &[u8], at: Offset, end: Offset) -> u32
     requires { ⌜ now table ≡ letters ⌝ }
     requires { ⌜ (at .0 < length (now text)) × (at .0 ≤ end .0) × (end .0 ≤ length (now text)) ⌝ }
     ensures { λ r. ⌜ r ≡ knownKind Sort.Zeros (take (end .0 - at .0) (drop (at .0) (now (text .entry)))) ⌝ }

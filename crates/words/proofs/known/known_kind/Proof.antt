@@ -2,14 +2,14 @@
 use mathlib.Core.Path.{_≡_, sym, ap, _∙_}
 use mathlib.Core.Bool.{Bool, cond}
 use mathlib.Core.List.{List, map}
-use Prim.Native.Nat.{ℕ, _-_}
+use Prim.Native.Nat.{ℕ, _+_, _-_, _≤_}
 use native.Mathlib.Omega.{arith}
 use borrow.Author.Needs.{needs}
 use borrow.Author.Tests.{ne-eqb}
 use lib.ListN.{length, take, drop}
 use denote.Ref.{now}
 use Rattle.tokens.specs.Kinds as kind
-use Rattle.words.specs.Known.{lower, knownKind, guessOf}
+use Rattle.words.specs.Known.{lower, letters, knownKind, guessOf}
 use Rattle.words.proofs.Lookup.{part-length, guess-row, confirmed, confirmed-at, lookup-is, lookup-long}
 use Rattle.words.proofs.known.known_kind.Statement.{statement}
 use Rattle.words.proofs.known.known_kind.Tie as tie
@@ -54,7 +54,9 @@ same-letters-requires : tie.Need-same-letters-requires
 same-letters-requires c κs =
     let g = c .before .before in
     let s = g .before .before .before .before .before .before in
-    (s .pre .0, (rw (g .guess-row .ensures) (guess-row (s .args .sort) (g .before .key-of .result)), omega arith, omega (arith, s .pre .1)))
+    let r = g .guess-row .result in
+    let e : r .0 + r .1 ≤ length letters = rw (g .guess-row .ensures) (guess-row (s .args .sort) (g .before .key-of .result)) in
+    (s .pre .0, (omega (arith, c .if2 .left), omega (arith, s .pre .1)))
 
 -- what the letters said
 said : (g : tie.After-same-letters) → let s = g .before .before .before .before .before .before .before .before .before in

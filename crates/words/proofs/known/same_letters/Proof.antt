@@ -16,13 +16,13 @@ use Rattle.words.proofs.known.same_letters.Statement.{statement}
 use Rattle.words.proofs.known.same_letters.Tie as tie
 
 abbrev Inv-loop : tie.InvT-loop
-Inv-loop table row text at count m₀ m =
+Inv-loop table start text at count m₀ m =
     (m ≤ count)
-    × (equal (map lower (take count (drop (at .0) text))) (take count (drop (row * 9) letters))
-    ≡ equal (drop m (map lower (take count (drop (at .0) text)))) (drop m (take count (drop (row * 9) letters))))
+    × (equal (map lower (take count (drop (at .0) text))) (take count (drop start letters))
+    ≡ equal (drop m (map lower (take count (drop (at .0) text)))) (drop m (take count (drop start letters))))
 
 abbrev μ-loop : tie.MeasureT-loop
-μ-loop table row text at count m₀ m = count - m
+μ-loop table start text at count m₀ m = count - m
 
 loop-holds : tie.Need-loop-holds Inv-loop μ-loop
 loop-holds c = (omega arith, refl)
@@ -36,29 +36,26 @@ shared-slice-read-lower c = omega arith
 lower-requires : tie.Need-lower-requires Inv-loop μ-loop
 lower-requires c κs = search needs
 
-mul-if1 : tie.Need-mul-if1 Inv-loop μ-loop
-mul-if1 c = omega arith
-
 add-if1 : tie.Need-add-if1 Inv-loop μ-loop
-add-if1 c = omega arith
+add-if1 c = omega (arith, letters-long)
 
 element-copy-out-if1 : tie.Need-element-copy-out-if1 Inv-loop μ-loop
-element-copy-out-if1 c = omega arith
+element-copy-out-if1 c = omega (arith, letters-long)
 
 -- the row's letters
-row-length : (row count : ℕ) → row < 56 → count ≤ 9 → length (take count (drop (row * 9) letters)) ≡ count
-row-length row count h k = simp (length-take, length-drop) (omega (arith, letters-long))
+row-length : (start count : ℕ) → start + count ≤ length letters → length (take count (drop start letters)) ≡ count
+row-length start count h = simp (length-take, length-drop) (omega arith)
 
-row-letter : (row count m : ℕ) → m < count → getD (take count (drop (row * 9) letters)) m 0 ≡ getD letters (row * 9 + m) 0
-row-letter row count m h = getD-take count (drop (row * 9) letters) m 0 h ∙ getD-drop (row * 9) letters m 0
+row-letter : (start count m : ℕ) → m < count → getD (take count (drop start letters)) m 0 ≡ getD letters (start + m) 0
+row-letter start count m h = getD-take count (drop start letters) m 0 h ∙ getD-drop start letters m 0
 
 -- one letter, with what the call gave
 turn : (c : tie.After-lower Inv-loop μ-loop)
     → let l = c .before .before .before .before in
     let a = l .before .before .args in
     let w = map lower (take (a .count) (drop (a .at .0) (now (a .text)))) in
-    let t = take (a .count) (drop (a .row * 9) letters) in
-    equal w t ≡ (eqb (c .lower .result) (getD (now (a .table)) (a .row * 9 + l .loop .m) 0) && equal (drop (l .loop .m + 1) w) (drop (l .loop .m + 1) t))
+    let t = take (a .count) (drop (a .start) letters) in
+    equal w t ≡ (eqb (c .lower .result) (getD (now (a .table)) (a .start + l .loop .m) 0) && equal (drop (l .loop .m + 1) w) (drop (l .loop .m + 1) t))
 turn c =
     let l = c .before .before .before .before in
     let s = l .before .before in
@@ -66,10 +63,10 @@ turn c =
     let h = c .before .before .before .loop-test .taken in
     let i = s .pre .1 in
     let w = map lower (take (a .count) (drop (a .at .0) (now (a .text)))) in
-    let t = take (a .count) (drop (a .row * 9) letters) in
+    let t = take (a .count) (drop (a .start) letters) in
     l .loop .inv .1
-    ∙ equal-step w t (l .loop .m) (omega (arith, part-length (now (a .text)) (a .at .0) (a .count) (i .2))) (omega (arith, row-length (a .row) (a .count) (i .0) (i .1)))
-    ∙ rw (getD-part (now (a .text)) (a .at .0) (a .count) (i .2) (l .loop .m) h, row-letter (a .row) (a .count) (l .loop .m) h, c .lower .ensures, s .pre .0)
+    ∙ equal-step w t (l .loop .m) (omega (arith, part-length (now (a .text)) (a .at .0) (a .count) (i .1))) (omega (arith, row-length (a .start) (a .count) (i .0)))
+    ∙ rw (getD-part (now (a .text)) (a .at .0) (a .count) (i .1) (l .loop .m) h, row-letter (a .start) (a .count) (l .loop .m) h, c .lower .ensures, s .pre .0)
 
 returns : tie.Need-returns Inv-loop μ-loop
 returns c = sym (turn (c .before .before) ∙ rw (ne-eqb _ _ (c .if1 .taken)))
@@ -89,8 +86,8 @@ returns-2 c =
     let s = l .before .before in
     let a = s .args in
     let i = s .pre .1 in
-    sym (l .loop .inv .1 ∙ equal-done (map lower (take (a .count) (drop (a .at .0) (now (a .text))))) (take (a .count) (drop (a .row * 9) letters)) (l .loop .m)
-    (omega (arith, part-length (now (a .text)) (a .at .0) (a .count) (i .2))) (omega (arith, row-length (a .row) (a .count) (i .0) (i .1))))
+    sym (l .loop .inv .1 ∙ equal-done (map lower (take (a .count) (drop (a .at .0) (now (a .text))))) (take (a .count) (drop (a .start) letters)) (l .loop .m)
+    (omega (arith, part-length (now (a .text)) (a .at .0) (a .count) (i .1))) (omega (arith, row-length (a .start) (a .count) (i .0))))
 
 pub same-letters-spec : {M : Type 1} → statement M
 same-letters-spec =
@@ -102,7 +99,6 @@ same-letters-spec =
     add-lower
     shared-slice-read-lower
     lower-requires
-    mul-if1
     add-if1
     element-copy-out-if1
     returns
