@@ -1,5 +1,5 @@
 -- The table of marks: what it says of a character, and that a mark is read as the rules have it.
--- getD-marks     the table's letter of a character
+-- getD-marks     the table at a character
 -- mark-high      nothing above ASCII is a mark
 -- mark-small, mark-state   a mark's kind is a small number, after which the state is as it was
 -- mark-rule, mark-read     the rules choose the mark, whatever follows it and whatever was read before, and read it
@@ -8,7 +8,6 @@ use mathlib.Core.Path.{_≡_, refl, sym, ap, _∙_}
 use mathlib.Core.Bool.{Bool, true, false}
 use mathlib.Core.List.{List, _∷_}
 use Prim.Native.Nat.{ℕ, _+_, _≤_, _<_}
-use Prim.Native.Char.{code}
 use native.Mathlib.Decide.{decLt}
 use native.Mathlib.Omega.{arith}
 use lib.Dec.{eqb}
@@ -31,9 +30,9 @@ use Rattle.scans.proofs.Characters.{stepped-ascii}
 use Rattle.lexer.proofs.Steps.{read-at, single-read}
 
 -- ---- the table
-pub getD-marks : (c : ℕ) → c < 0x80 → getD markTable c 0 ≡ code "@" + markOf c
+pub getD-marks : (c : ℕ) → c < 0x80 → getD markTable c 0 ≡ markOf c
 unfolding markTable
-getD-marks c h = getD-tabled (λ m. code "@" + markOf m) 0 0x80 c h ∙ ap (λ (m : ℕ). code "@" + markOf m) (omega arith)
+getD-marks c h = getD-tabled markOf 0 0x80 c h ∙ ap markOf (omega arith)
 
 -- ---- which characters are marks
 -- a number is this one, or it is not

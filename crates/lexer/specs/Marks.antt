@@ -1,6 +1,5 @@
 -- The marks of rule 4 as a table, which the code looks up before it goes through the rules. Assumes nothing.
-use Prim.Native.Nat.{ℕ, _+_}
-use Prim.Native.Char.{code}
+use Prim.Native.Nat.{ℕ}
 use mathlib.Core.List.{List}
 use Rattle.tokens.specs.Kinds as kind
 use Rattle.tokens.specs.Tabled.{tabled}
@@ -25,6 +24,6 @@ singleKind Unknown = kind.None
 unfoldable pub markOf : ℕ → ℕ
 markOf c = singleKind (singles c Unknown)
 
--- for each ASCII character a letter: `@` for None, `A` for the first kind
+-- the same for all of ASCII
 unfoldable pub markTable : List ℕ
-markTable = tabled (λ c. code "@" + markOf c) 0 0x80
+markTable = tabled markOf 0 0x80

@@ -6,9 +6,9 @@ ghost use Prim.Native.Nat.{_<_};
 ghost use lib.ListN.{length, getD};
 ghost use Rattle.lexer.specs.Marks.{markOf, markTable};
 
-// A letter for each ASCII character: `@` where it is no mark, and from `A` on the kind.
+// For each ASCII character the kind of the mark that it is, and None where it is none.
 const MARKS: [u8; 128] =
-    *b"@@@@@@@@@@B@@B@@@@@@@@@@@@@@@@@@A@@@@@@@FG@@D@C@@@@@@@@@@@JK@@@L@@@@@@@@@@@@@@@@@@@@@@@@@@@H@I@@@@@@@@@@@@@@@@@@@@@@@@@@@@@@@@@@";
+    *b"\0\0\0\0\0\0\0\0\0\0\x02\0\0\x02\0\0\0\0\0\0\0\0\0\0\0\0\0\0\0\0\0\0\x01\0\0\0\0\0\0\0\x06\x07\0\0\x04\0\x03\0\0\0\0\0\0\0\0\0\0\0\x0a\x0b\0\0\0\x0c\0\0\0\0\0\0\0\0\0\0\0\0\0\0\0\0\0\0\0\0\0\0\0\0\0\0\0\x08\0\x09\0\0\0\0\0\0\0\0\0\0\0\0\0\0\0\0\0\0\0\0\0\0\0\0\0\0\0\0\0\0\0\0\0\0";
 
 // The table, for the public call to lend: a constant is laid out anew wherever a function names it.
 pub fn mark_table() -> [u8; 128]
@@ -28,5 +28,5 @@ pub fn mark_at(table: &[u8; 128], text: &[u8], at: Offset) -> u32
     if 0x80 <= b {
         return kind::NONE;
     }
-    (table[b as usize] - b'@') as u32
+    table[b as usize] as u32
 }

@@ -1,8 +1,7 @@
--- `lexer::mark::mark_at` meets its contract: the letter of an ASCII character, less the first of them. Assumes nothing.
+-- `lexer::mark::mark_at` meets its contract: what the table has for an ASCII character. Assumes nothing.
 use mathlib.Core.Path.{_≡_, sym, ap, _∙_}
 use mathlib.Core.List.{List}
-use Prim.Native.Nat.{ℕ, _+_}
-use Prim.Native.Char.{code}
+use Prim.Native.Nat.{ℕ}
 use native.Mathlib.Omega.{arith}
 use borrow.Author.Needs.{needs}
 use denote.Ref.{now}
@@ -24,22 +23,19 @@ cast-result c = search needs
 element-copy-out-result : tie.Need-element-copy-out-result
 element-copy-out-result c = search needs
 
--- the letter
-letter : (c : tie.Else1) → let s = c .before .before in let b = getD (now (s .args .text)) (s .args .at .0) 0 in
-    getD (s .args .table .now) b 0 ≡ code "@" + markOf b
-letter c =
+-- what it has
+entry : (c : tie.Else1) → let s = c .before .before in let b = getD (now (s .args .text)) (s .args .at .0) 0 in
+    getD (s .args .table .now) b 0 ≡ markOf b
+entry c =
     let s = c .before .before in
     let b = getD (now (s .args .text)) (s .args .at .0) 0 in
     ap (λ (l : List ℕ). getD l b 0) (s .pre .0) ∙ getD-marks b (c .if1 .left)
 
-sub-result : tie.Need-sub-result
-sub-result c = omega (arith, letter (c .before))
-
 cast-result-2 : tie.Need-cast-result-2
-cast-result-2 c = let s = c .before .before .before in omega (arith, letter (c .before), mark-small (getD (now (s .args .text)) (s .args .at .0) 0))
+cast-result-2 c = let s = c .before .before .before in omega (arith, entry (c .before), mark-small (getD (now (s .args .text)) (s .args .at .0) 0))
 
 returns-2 : tie.Need-returns-2
-returns-2 c = omega (arith, letter (c .before))
+returns-2 c = entry (c .before)
 
 pub mark-at-spec : {M : Type 1} → statement M
 mark-at-spec =
@@ -49,6 +45,5 @@ mark-at-spec =
     returns
     cast-result
     element-copy-out-result
-    sub-result
     cast-result-2
     returns-2)
