@@ -1,9 +1,10 @@
 // Prints the calls that the program `replay` makes, and the Rust's answers to them; `tools/replay` builds and runs it.
 //   replay stdin     crates/replay/stdin: the calls, one a line, of the form that crates/replay/src/main.rt describes
 //   replay stdout    crates/replay/stdout: the answers
-//   replay counts    what they cover; ends with status 1 where a refusal, a kind or a state is not met
-// The calls are chosen in compare/src/cases.rs, always the same. Tokens, sanitised lists and texts are the Rust's own; refusals, their
-// details, the stop offset and the exposed count are document 01's, worked out from them by the functions that `tools/compare` uses too.
+//   replay counts    what they cover; ends with status 1 where a refusal or a kind is met by no call
+// The calls are chosen in compare/src/cases.rs, always the same (seed 0x5EED_0007). The Rust is that of tools/source.sha256, built in release by the
+// rustc of docs/TOOLCHAIN.md. Tokens, sanitised lists and texts are the Rust's own; refusals, their details, the stop offset and the exposed count
+// are document 01's, worked out from them by the functions that `tools/compare` uses too.
 // The port is not linked: nothing that it answers can come into these files.
 #[path = "../answer.rs"]
 mod answer;
@@ -156,7 +157,7 @@ struct Counts {
     long: usize,
 }
 
-// By call: its name, the refusals that it has, and the kinds that it can be asked or answer: no text is read as None or Ellipsis.
+// By call: its name, the refusals that it has, and the kinds that it cannot meet: no text is read as None or Ellipsis.
 const CALLS: [(Call, &str, &[usize], &[u32]); 4] = [
     (Call::Lex, "lex", &[0, 1, 2, 3], &[kind::NONE, kind::ELLIPSIS]),
     (Call::Sanitize, "sanitize", &[0, 4, 5], &[]),
@@ -192,8 +193,7 @@ impl Counts {
             whole &= refusals.iter().all(|number| self.refusals[call][*number] > 0);
             let seen = self.kinds[call].len();
             let all = kind::UNKNOWN as usize + 1 - without.len();
-            // in the one call every kind that is read may be blanked, so its kinds are counted and not asked for
-            whole &= call == Call::SanitizeString as usize || seen == all;
+            whole &= seen == all;
             println!("replay: {name}: {} calls, refusals {} (0: answered), {seen} kinds of {all}", self.lines[call], by.join(", "));
         }
         let lines: usize = self.lines.iter().sum();
