@@ -207,7 +207,8 @@ fn main() -> ExitCode {
     // the Rust's panics are answers here: refusal 6
     std::panic::set_hook(Box::new(|_| {}));
     let widths = Widths::new();
-    let cases = cases::all(&widths);
+    let groups = cases::all(&widths);
+    let cases: Vec<&Case> = groups.iter().flat_map(|(_, cases)| cases).collect();
     match std::env::args().nth(1).as_deref() {
         Some("stdin") => {
             cases.iter().for_each(|case| println!("{}", line(case)));
@@ -218,6 +219,7 @@ fn main() -> ExitCode {
             cases::no_calls().iter().for_each(|_| println!("no call"));
         }
         Some("counts") => {
+            groups.iter().for_each(|(name, cases)| println!("replay: {name}: {}", cases.len()));
             let mut counts = Counts::default();
             cases.iter().for_each(|case| counts.count(case, &answered(&widths, case)));
             if !counts.print() {
