@@ -12,10 +12,15 @@
 //   22  the words given; then the line's own text
 // A line of more than 16,384 characters, or not of this form, prints `no call`.
 // The calls are those of crate sql_lexer, in the numbers of include/hayrumble.h (crate sql_lexer_c), so that this face is replayed as well.
+use crate::head::HEAD;
+use crate::head::Head;
+use crate::head::LEX;
+use crate::head::SANITIZE;
+use crate::head::WRITE;
+use crate::head::head_of;
 use crate::lay::lay_bytes;
 use crate::lay::lay_text;
 use crate::lay::lay_words;
-use crate::lay::number;
 use crate::print::put_answer;
 use crate::print::put_no_call;
 use frames::hex::decode;
@@ -29,26 +34,11 @@ use sql_lexer_c::hay_write;
 ghost use mathlib.Core.Path.{_≡_};
 ghost use Prim.Native.Nat.{_+_, _*_, _≤_};
 ghost use lib.ListN.{length};
-ghost use Rattle.replay.specs.Room.{Lent, Within};
+ghost use Rattle.replay.specs.Room.{Asks, Lent, Within};
 
+mod head;
 mod lay;
 mod print;
-
-// The calls' numbers.
-const LEX: u8 = 1;
-
-const SANITIZE: u8 = 2;
-
-const WRITE: u8 = 3;
-
-const SANITIZE_STRING: u8 = 4;
-
-// The bytes before the words, the most words and bytes lent, and the longest text.
-const HEAD: usize = 22;
-
-const MOST: usize = 1024;
-
-const LONGEST: usize = 1048577;
 
 // Makes the call.
 fn call(which: u8, text: &[u8], slots: &mut [u32], count: usize, out: &mut [u8]) -> HayAnswer {
@@ -66,24 +56,22 @@ fn call(which: u8, text: &[u8], slots: &mut [u32], count: usize, out: &mut [u8])
 
 // Lays what the line gives into what is lent, makes the call and prints its answer: how long that is.
 fn answer(
+    head: Head,
     bytes: &[u8],
-    given: usize,
-    count: usize,
-    size: usize,
     text: &mut [u8],
     slots: &mut [u32],
     out: &mut [u8],
     page: &mut [u8],
 ) -> usize
-    requires { ⌜ (22 + given * 4 ≤ length (now bytes)) × (length (now bytes) ≤ 8192) × (size ≤ 1048577) ⌝ }
+    requires { ⌜ Asks head (length (now bytes)) × (length (now bytes) ≤ 8192) ⌝ }
     requires { ⌜ (1048577 ≤ length (now text)) × (length (now slots) ≤ 1024) × (length (now out) ≤ 1024) × (16384 ≤ length (now page)) ⌝ }
     ensures { λ r. ⌜ r ≤ length (now (page .exit)) ⌝ }
 {
-    lay_words(slots, bytes, HEAD, given);
+    lay_words(slots, bytes, HEAD, head.given);
     lay_bytes(out);
-    let own = HEAD + given * 4;
-    let n = lay_text(text, &bytes[own..], size, bytes[21]);
-    let answered = call(bytes[0], &text[..n], slots, count, out);
+    let own = HEAD + head.given * 4;
+    let n = lay_text(text, &bytes[own..], head.size, bytes[21]);
+    let answered = call(bytes[0], &text[..n], slots, head.count, out);
     put_answer(page, answered, slots, out)
 }
 
@@ -101,38 +89,15 @@ fn replay(
     if bytes.len() < HEAD {
         return put_no_call(page);
     }
-    let which = bytes[0];
-    let words = number(bytes, 1) as usize;
-    let given = number(bytes, 5) as usize;
-    let count = number(bytes, 9) as usize;
-    let room = number(bytes, 13) as usize;
-    let size = number(bytes, 17) as usize;
-    if which < LEX {
+    let head = head_of(bytes);
+    if !head.fine {
         return put_no_call(page);
     }
-    if SANITIZE_STRING < which {
-        return put_no_call(page);
-    }
-    if MOST < words {
-        return put_no_call(page);
-    }
-    if words < given {
-        return put_no_call(page);
-    }
-    if MOST < room {
-        return put_no_call(page);
-    }
-    if LONGEST < size {
-        return put_no_call(page);
-    }
-    if bytes.len() - HEAD < given * 4 {
-        return put_no_call(page);
-    }
+    let words = head.words;
+    let room = head.room;
     answer(
+        head,
         bytes,
-        given,
-        count,
-        size,
         text,
         &mut slots[..words],
         &mut out[..room],
