@@ -16,7 +16,7 @@ const LIMIT: usize = 1_048_576;
 const FILLER: u32 = 0xA5A5_A5A5;
 
 // A member of every class and rule.
-const EVERY: [char; 42] = [
+pub const EVERY: [char; 42] = [
     '`', '\'', '"', '\\', '#', '-', '/', '*', ' ', '\n', '\r', '.', ',', '(', ')', '[', ']', ':', ';', '?', '$', '%', '+', '=', '!', '>', '<', '&',
     '|', '_', 'a', 'X', 'b', 'n', '0', '7', '\t', 'é', '²', 'Ⅷ', '€', '😀',
 ];
@@ -67,7 +67,7 @@ fn refused(refusal: u64, detail: usize) -> Answer {
 }
 
 // What document 01 has us answer, and what the slots hold then, by the Rust's own reader.
-fn expected(widths: &Widths, text: &[u8], words: usize) -> (Answer, Vec<u32>) {
+pub fn expected(widths: &Widths, text: &[u8], words: usize) -> (Answer, Vec<u32>) {
     let mut slots = vec![FILLER; words];
     if text.len() > LIMIT {
         return (refused(1, text.len()), slots);

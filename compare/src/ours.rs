@@ -22,17 +22,9 @@ extern "C" {
     fn hay_count(text: *const u8, len: usize) -> usize;
 }
 
-// As sql_lexer_c declares it: a refusal and its detail, or refusal 0 and the numbers that the call answers with.
-#[repr(C)]
-#[derive(PartialEq, Eq, Debug, Clone, Copy, Default)]
-pub struct Answer {
-    pub refusal: u64,
-    pub detail: u64,
-    pub tokens: u64,
-    pub stop: u64,
-    pub exposed: u64,
-    pub length: u64,
-}
+#[path = "answer.rs"]
+mod answer;
+pub use answer::Answer;
 
 // An answer of more than two words is written through a pointer that goes before the other arguments, as on x86-64. It is declared so and not
 // as a value returned, since the same module compiled for another processor (tools/archive) keeps that order.

@@ -17,7 +17,7 @@ const FIVE: [(&str, &str); 5] = [
 ];
 
 // "Statement and shape": all rows, with the stop offset where it is not the statement's length.
-const ROWS: [(&str, &str, Option<usize>); 15] = [
+pub const ROWS: [(&str, &str, Option<usize>); 15] = [
     ("", "", None),
     ("a =< 1", "a <= ?", None),
     ("a ! b", "a ", Some(2)),
@@ -35,7 +35,7 @@ const ROWS: [(&str, &str, Option<usize>); 15] = [
     ("VALUES (1),\n(2)", "VALUES (?),\n(2)", None),
 ];
 
-fn hex(bytes: &[u8]) -> String {
+pub fn hex(bytes: &[u8]) -> String {
     bytes.iter().map(|byte| format!("{byte:02x}")).collect()
 }
 
