@@ -8,23 +8,23 @@ use mathlib.Core.Bool.{Bool, true, false, cond, _||_}
 use mathlib.Core.List.{List, [], _∷_}
 use mathlib.Core.Logic.{_⊎_, inl, inr}
 use mathlib.Core.Option.{Option, none, some}
-use Prim.Native.Nat.{ℕ, zero, suc, _≤_, _<_}
+use Prim.Native.Nat.{ℕ, zero, suc, _<_}
 use native.Mathlib.Omega.{arith}
 use native.Mathlib.Nat.{le-of-suc-le-suc}
 use lib.Dec.{ltb}
-use lib.ListN.{length, getD}
+use lib.ListN.{length}
 use borrow.Author.Tests.{ltb-true, ltb-false}
 use Rattle.chars.specs.Utf8.{firstBad}
 use Rattle.chars.proofs.Scalars.{clash}
 use Rattle.tokens.specs.declared.slot.Slot.{Slot}
 use Rattle.tokens.specs.Slots.{room, tokensIn}
 use Rattle.tokens.specs.Formed.{firstPlace, malformed}
-use Rattle.tokens.specs.Answers.{Answer, done, refused, limit, textTooLong, noRoomTokens, badCount, badToken, cutChar, noRoomOut}
+use Rattle.tokens.specs.Answers.{Answer, done, refused, limit, textTooLong, noRoomTokens, badCount, noRoomOut}
 use Rattle.tokens.specs.Checks.{_then_, fine, validity, checkText, checkCount, checkForm}
 use Rattle.writer.specs.Written.{cuts}
-use Rattle.writer.specs.Promise.{checkCuts, checkOut}
+use Rattle.writer.specs.Promise.{checkCuts}
 use Rattle.demands.specs.Terms.{tokensOf, at}
-use Rattle.demands.specs.Tables.{Table, end, row, Refuses, Clear, Follows, First, TextTooLong, NotUtf8, NoRoomTokens, BadCount, BadToken, CutChar, NoRoomOut}
+use Rattle.demands.specs.Tables.{Table, end, row, Refuses, Follows, First, TextTooLong, NotUtf8, NoRoomTokens, BadCount, BadToken, CutChar, NoRoomOut}
 
 pub data Check (a : Answer) (n : ℕ) (applies : ℕ → Type 0) : Type 0 where
   passes : a ≡ fine → ((e : ℕ) → applies e → ⊥) → Check a n applies

@@ -5,7 +5,7 @@
 -- lex-leaves, sanitize-leaves, write-leaves, string-leaves       and what it leaves in the buffers
 -- `buffer_content` refuses nothing and lends nothing to write in.
 -- Assumes nothing.
-use mathlib.Core.Path.{_≡_, refl, sym, ap, subst, _∙_}
+use mathlib.Core.Path.{_≡_, sym, ap, subst, _∙_}
 use mathlib.Core.Bool.{Bool, true, false, cond}
 use mathlib.Core.List.{List, [], _∷_}
 use mathlib.Core.Option.{Option, none, some}
@@ -31,13 +31,13 @@ use Rattle.sanitizer.specs.Promise.{sanitizeAnswer, sanitizeBuffer, Sanitizes}
 use Rattle.sanitizer.specs.declared.Sanitized.{Sanitized}
 use Rattle.writer.specs.Written.{written, onto}
 use Rattle.writer.specs.Promise as writer
-use Rattle.writer.specs.Promise.{checkCuts, checkOut, writeAnswer, Writes}
+use Rattle.writer.specs.Promise.{checkCuts, checkOut, Writes}
 use Rattle.writer.specs.declared.Wrote.{Wrote}
 use Rattle.sql_lexer.specs.Promise as face
 use Rattle.sql_lexer.specs.Promise.{shape, figures, stringAnswer, stringSlots, stringOut, SanitizesString}
 use Rattle.sql_lexer.specs.declared.Shaped.{Shaped}
 use Rattle.demands.specs.Terms.{tokensOf, sanitizedOf}
-use Rattle.demands.specs.Tables.{Table, Follows, Leaves, LeavesSlots, lexTable, sanitizeTable, writeTable, stringTable}
+use Rattle.demands.specs.Tables.{Follows, Leaves, LeavesSlots, lexTable, sanitizeTable, writeTable, stringTable}
 use Rattle.demands.proofs.Checks.{numberOf, long, text-checks, cond-then, cond-over, follows-end, follows-then, check-long, check-valid, check-tokens, check-count, check-form, check-cuts, check-out}
 
 -- a buffer after an answer

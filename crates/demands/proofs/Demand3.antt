@@ -12,28 +12,27 @@
 use mathlib.Core.Path.{_≡_, refl, sym, ap, subst, _∙_}
 use mathlib.Core.Bool.{Bool, true, false, cond}
 use mathlib.Core.List.{List, [], _∷_, _++_}
-use mathlib.Core.Logic.{_⊎_, inl, inr}
+use mathlib.Core.Logic.{inl, inr}
 use Prim.Native.Nat.{ℕ, _+_, _/_, _<_}
 use native.Mathlib.Omega.{arith}
 use native.Mathlib.Decide.{ℕ-discrete}
 use lib.Dec.{ltb}
 use lib.ListN.{length, getD, take, drop}
 use lib.Seq.{take-append-seam}
-use Rattle.chars.specs.Utf8.{chars, firstBad}
+use Rattle.chars.specs.Utf8.{chars}
 use Rattle.tokens.specs.Kinds as kind
 use Rattle.tokens.specs.Slots.{wordsPerSlot, room}
-use Rattle.tokens.specs.Answers.{Answer, done, refused, noRoomTokens, noRoomOut}
-use Rattle.tokens.specs.Checks.{_then_, fine, checkText, validity, afterwards}
+use Rattle.tokens.specs.Answers.{Answer, done, noRoomTokens, noRoomOut}
+use Rattle.tokens.specs.Checks.{_then_, afterwards}
 use Rattle.tokens.proofs.Checking.{text-within}
 use Rattle.lexer.specs.declared.rule.State.{State}
 use Rattle.lexer.specs.declared.rule.Rule.the-variants.{Quoted}
-use Rattle.scans.specs.Ways.{Ways, pinned}
+use Rattle.scans.specs.Ways.{pinned}
 use Rattle.scans.specs.Scans.{quoteLen}
 use Rattle.lexer.specs.Rules.{ruleOf}
 use Rattle.lexer.specs.Read.{partOf, stopAt, reading}
 use Rattle.lexer.specs.Lexes.{validAnswer, lexAnswer}
 use Rattle.lexer.proofs.Formed.{all-formed}
-use Rattle.sanitizer.specs.Run.{sanitized}
 use Rattle.sanitizer.specs.Exposed.{exposed}
 use Rattle.sanitizer.proofs.Alike.{length-same, same-kinds-same-count}
 use Rattle.sanitizer.proofs.Keeping.{accepted-formed}

@@ -1,7 +1,7 @@
 -- The table of refusals for each call (document 01, "Refusal numbers"), and what it is for an answer to follow a table. Assumes nothing.
 use mathlib.Core.Path.{_≡_}
 use mathlib.Core.Bool.{Bool, true, false}
-use mathlib.Core.List.{List, [], _∷_}
+use mathlib.Core.List.{List}
 use mathlib.Core.Logic.{_⊎_}
 use mathlib.Core.Option.{some}
 use Prim.Native.Nat.{ℕ, _<_}

@@ -3,7 +3,6 @@
 -- Assumes nothing.
 use mathlib.Core.Path.{_≡_, refl}
 use mathlib.Core.List.{List, [], _∷_, map}
-use Prim.Native.Nat.{ℕ}
 use Prim.Native.String.{String}
 use Rattle.chars.specs.Utf8.{front, joined, ranged, follows, isScalar, charsFrom, chars, badFrom, firstBad, encode, encodeAll, width}
 use Rattle.chars.specs.Table as table
@@ -14,7 +13,7 @@ use Rattle.tokens.specs.Formed.{carriesOffsets}
 use Rattle.tokens.specs.Content.{within, content}
 use Rattle.tokens.specs.Checks.{checkText}
 use Rattle.tokens.specs.Texts.{ascii, texts, textOf}
-use Rattle.scans.specs.Scans.{scan, span, inLine, inRun, inCharset, inWord, inNumber, goesOn, quoteLen}
+use Rattle.scans.specs.Scans.{scan, span, inLine, inRun, inCharset, inWord, inNumber, goesOn}
 use Rattle.words.specs.Known.{words, runs, zeros, rowsOf, knownKind}
 use Rattle.lexer.specs.Rules.{ruleOf, quoted, line, block, numbered, run, charset, word, number, byRule, readOne}
 use Rattle.lexer.specs.Read.{go, reading}

@@ -16,7 +16,7 @@ use Rattle.tokens.specs.Checks.{_then_}
 use Rattle.scans.specs.Ways.{pinned}
 use Rattle.sql_lexer.specs.Promise.{stringAnswer}
 use Rattle.frames.specs.Hex.{hexBytes}
-use Rattle.frames.specs.Frames.{lineLimit, badLine, lineAnswer, framed, Shown, frameOf}
+use Rattle.frames.specs.Frames.{lineLimit, lineAnswer, framed, frameOf}
 use Rattle.frames.proofs.Answers.{too-long}
 
 pub longer : (line : List ℕ) → lineLimit < length line → frameOf line ≡ record { status = 24; number = lineLimit; shape = [] }

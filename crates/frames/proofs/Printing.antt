@@ -8,7 +8,7 @@
 -- put-more           one more byte as text
 -- Assumes nothing.
 use mathlib.Core.Path.{_≡_, refl, sym, ap, _∙_}
-use mathlib.Core.List.{List, [], _∷_, _++_, append-nil, append-assoc}
+use mathlib.Core.List.{List, [], _∷_, _++_, append-assoc}
 use Prim.Native.Nat.{ℕ, suc, _+_, _-_, _*_, _/_, _%_, _≤_, _<_}
 use native.Mathlib.Numerals.{add-one}
 use native.Mathlib.Omega.{arith}
@@ -16,7 +16,7 @@ use lib.ListN.{length, getD, set, take, drop, length-set, length-append}
 use lib.Seq.{append-snoc, take-suc, set-split, take-at, length-take-le}
 use borrow.Author.Tests.{lt-ltb, le-ltb}
 use Rattle.writer.specs.Promise.{Put}
-use Rattle.writer.proofs.Puts.{put-as, put-then, put-long}
+use Rattle.writer.proofs.Puts.{put-as, put-then}
 use Rattle.frames.specs.Hex.{hexDigit, hexText}
 use Rattle.frames.specs.Frames.{Shown, bigEndian, head, printed}
 

@@ -19,7 +19,7 @@ use Rattle.frames.specs.Frames.{lineLimit, longest, frameOf, printed, Prints}
 use Rattle.frames.proofs.Longer.{longer}
 use Rattle.shape.specs.declared.Held.{Held}
 use Rattle.shape.specs.Due.{due}
-use Rattle.shape.specs.Fits.{Fits, pageRoom, whole, Keeps, Takes, Ends}
+use Rattle.shape.specs.Fits.{Fits, pageRoom, Keeps, Takes, Ends}
 
 -- two lines over the limit have one frame
 same-frame : (k l : List ℕ) → lineLimit < length k → lineLimit < length l → printed (frameOf k) ≡ printed (frameOf l)

@@ -3,7 +3,7 @@ use mathlib.Core.Path.{_≡_}
 use mathlib.Core.List.{List, [], _∷_, _++_}
 use Prim.Native.Nat.{ℕ, suc, _+_, _≤_, _<_}
 use lib.ListN.{length, take}
-use Rattle.frames.specs.Frames.{lineLimit, longest}
+use Rattle.frames.specs.Frames.{lineLimit}
 use Rattle.shape.specs.Due.{due}
 use Rattle.shape.specs.declared.Held.{Held}
 

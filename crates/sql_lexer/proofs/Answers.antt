@@ -3,12 +3,10 @@
 -- no-room     the shape does not fit: the tokens are sanitised, the output is as it was
 -- shaped      done: the shape lies over the front of the output
 -- Assumes nothing.
-use mathlib.Core.Path.{_≡_, refl, sym, ap, _∙_}
+use mathlib.Core.Path.{_≡_, sym, ap, _∙_}
 use mathlib.Core.List.{List, [], _∷_}
 use Prim.Native.Nat.{ℕ, _≤_, _<_}
 use lib.ListN.{length}
-use borrow.Author.Tests.{lt-ltb, le-ltb}
-use Rattle.tokens.specs.declared.slot.Slot.{Slot}
 use Rattle.tokens.specs.declared.refusal.Refusal.{Refusal}
 use Rattle.tokens.specs.declared.refusal.Refusal.the-variants.{NoRoomOut}
 use Rattle.tokens.specs.Answers.{Answer, done, refusal, noRoomOut}

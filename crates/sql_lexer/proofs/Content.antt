@@ -6,9 +6,9 @@
 -- Assumes nothing.
 use mathlib.Core.Path.{_≡_, refl, sym, ap, subst, _∙_}
 use mathlib.Core.Bool.{Bool, true, false, cond}
-use mathlib.Core.List.{List, [], _∷_, _++_, map}
+use mathlib.Core.List.{List, [], _∷_, _++_}
 use mathlib.Core.Option.{none}
-use Prim.Native.Nat.{ℕ, zero, suc, _+_, _≤_, _<_}
+use Prim.Native.Nat.{ℕ, zero, suc, _+_, _<_}
 use native.Mathlib.Omega.{arith}
 use native.Mathlib.Decide.{decLt}
 use native.Mathlib.Nat.{le-of-suc-le-suc}
@@ -36,7 +36,7 @@ use Rattle.sanitizer.proofs.Alike.{length-same}
 use Rattle.writer.specs.Written.{sliceOf, tokenText}
 use Rattle.sql_lexer.proofs.Same.{at, bare-text}
 use Rattle.sql_lexer.proofs.Splits.{chars-cut}
-use Rattle.sql_lexer.proofs.Standing.{FromOne, quoted-carries, quoted-slice, Stood, stood, OneCut, same-front, count-of}
+use Rattle.sql_lexer.proofs.Standing.{FromOne, quoted-carries, quoted-slice, stood, OneCut, same-front, count-of}
 
 -- ---- the text of a piece
 -- the text of a kind, with a slice and a character for those that have one

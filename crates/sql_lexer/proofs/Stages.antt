@@ -20,13 +20,12 @@ use Rattle.tokens.specs.Checks.{_then_, checkText, validity, afterwards}
 use Rattle.tokens.specs.Slots.{room, tokensIn, laid, Left}
 use Rattle.tokens.specs.Formed.{firstPlace, malformed}
 use Rattle.tokens.proofs.Storing.{left-then, left-laid}
-use Rattle.tokens.proofs.Laid.{tokens-laid, laid-left}
+use Rattle.tokens.proofs.Laid.{laid-left}
 use Rattle.scans.specs.Ways.{pinned}
 use Rattle.lexer.specs.Read.{tokens, stopAt, reading}
 use Rattle.lexer.specs.Lexes.{validAnswer, lexAnswer, lexBuffer, Lexes}
 use Rattle.lexer.specs.declared.lex.Lexed.the-variants.{Done}
 use Rattle.lexer.proofs.Formed.{all-formed}
-use Rattle.lexer.proofs.Turns.{tokens-few}
 use Rattle.sanitizer.specs.Run.{sanitized, Known}
 use Rattle.sanitizer.specs.Exposed.{exposed}
 use Rattle.sanitizer.specs.Promise.{SanitizesTokens}

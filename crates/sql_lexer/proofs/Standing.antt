@@ -4,14 +4,14 @@
 -- same-front       two cuts of the same characters with the same bytes before and in the first character are one cut
 -- Assumes nothing.
 use mathlib.Core.Path.{_≡_, refl, sym, ap, subst, _∙_}
-use mathlib.Core.Bool.{Bool, true, false, cond, not, _&&_, false≢true}
+use mathlib.Core.Bool.{Bool, true, false, cond, not, false≢true}
 use mathlib.Core.List.{List, [], _∷_, _++_}
-use Prim.Native.Nat.{ℕ, zero, suc, _+_, _≤_, _<_}
+use Prim.Native.Nat.{ℕ, zero, suc, _+_, _≤_}
 use native.Mathlib.Omega.{arith}
-use native.Mathlib.Nat.{add-assoc, add-zero}
+use native.Mathlib.Nat.{add-zero}
 use lib.Dec.{eqb, leb, ltb}
 use lib.ListN.{length, getD, take, drop, length-append}
-use borrow.Author.Tests.{leb-true, le-leb}
+use borrow.Author.Tests.{leb-true}
 use Rattle.chars.specs.Utf8.{width, encode, encodeAll, isScalar, allScalars}
 use Rattle.chars.proofs.Bytes.{and-l, and-r}
 use Rattle.tokens.specs.Kinds as kind
@@ -25,7 +25,7 @@ use Rattle.lexer.specs.declared.rule.Rule.the-variants.{Quoted, Line, Block, Si
 use Rattle.scans.specs.Ways.{Ways}
 use Rattle.scans.specs.declared.goes.Stop.the-variants as stop
 use Rattle.words.specs.declared.guess.Sort.the-variants as sort
-use Rattle.scans.specs.Scans.{bytes, span, inRun, goesOn, quoteLen}
+use Rattle.scans.specs.Scans.{bytes, span, inRun, goesOn}
 use Rattle.words.specs.Known.{knownKind}
 use Rattle.lexer.specs.Rules.{Carried, nothing, slice, scalar, Out, halt, took, sliced, stateAfter, ruleOf, quoted, line, block, numbered, run, charset, word, number, byRule, readOne}
 use Rattle.lexer.specs.Read.{slotOf, Reading, tokens, onward, go}
@@ -33,7 +33,7 @@ use Rattle.chars.proofs.Scalars.{clash}
 use Rattle.scans.proofs.Characters.{encode-length}
 use Rattle.lexer.proofs.Formed.{fits, Fits, one-fits, plain-not, unknown-not}
 use Rattle.lexer.proofs.Pieces.{Piece, pieceOf}
-use Rattle.lexer.proofs.Local.{Walk, stuck, stands, push, onWalk, walk}
+use Rattle.lexer.proofs.Local.{stands, push, onWalk, walk}
 use Rattle.sql_lexer.proofs.Same.{at}
 
 -- a quoted kind carries offsets

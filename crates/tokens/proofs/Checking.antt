@@ -7,12 +7,11 @@
 -- list-passes                        checkCount and checkForm find nothing
 -- refusal-then, refusal-after        after a refusal nothing is checked and nothing written
 -- Assumes nothing.
-use mathlib.Core.Path.{_≡_, refl, sym, ap}
+use mathlib.Core.Path.{_≡_, refl}
 use mathlib.Core.Bool.{Bool, true, false, cond, _||_, or-true}
 use mathlib.Core.List.{List}
 use mathlib.Core.Option.{Option, none, some}
 use Prim.Native.Nat.{ℕ, _≤_, _<_}
-use native.Mathlib.Omega.{arith}
 use lib.Dec.{ltb}
 use lib.ListN.{length}
 use borrow.Author.Tests.{lt-ltb, le-ltb, ltb-false}
@@ -21,7 +20,7 @@ use Rattle.chars.proofs.Scalars.{clash}
 use Rattle.tokens.specs.declared.slot.Slot.{Slot}
 use Rattle.tokens.specs.declared.refusal.Refusal.{Refusal}
 use Rattle.tokens.specs.declared.refusal.Refusal.the-variants.{TextTooLong, NotUtf8, NoRoomTokens, BadCount, BadToken, CutChar, NoRoomOut}
-use Rattle.tokens.specs.Answers.{Answer, done, refused, limit, refusal, textTooLong, notUtf8, badCount, badToken}
+use Rattle.tokens.specs.Answers.{Answer, done, refused, limit, refusal, textTooLong, badCount, badToken}
 use Rattle.tokens.specs.Slots.{room}
 use Rattle.tokens.specs.Formed.{firstPlace, malformed}
 use Rattle.tokens.specs.Checks.{_then_, checkText, checkCount, checkForm, validity, fine, afterwards}

@@ -4,11 +4,11 @@
 -- formed-kind                       a well-formed slot has one of the 84 kinds
 -- Assumes nothing.
 use mathlib.Core.Path.{_≡_, sym, _∙_}
-use mathlib.Core.Bool.{true, false, cond, _&&_, or-true, and-false, false≢true}
+use mathlib.Core.Bool.{true, false, _&&_, or-true, and-false, false≢true}
 use Prim.Native.Nat.{ℕ, _≤_, _<_}
 use native.Mathlib.Decide.{decLt}
 use native.Mathlib.Omega.{arith}
-use lib.Dec.{eqb, leb, ltb}
+use lib.Dec.{eqb}
 use borrow.Author.Tests.{lt-ltb, le-ltb, le-leb, lt-leb, eq-eqb, ne-eqb}
 use Rattle.chars.specs.Utf8.{isScalar}
 use Rattle.tokens.specs.declared.slot.Slot.{Slot}

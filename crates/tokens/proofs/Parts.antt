@@ -3,7 +3,7 @@
 -- length-content                   as long as its offsets say
 -- Assumes nothing.
 use mathlib.Core.Path.{_≡_}
-use mathlib.Core.Bool.{false, and-false}
+use mathlib.Core.Bool.{and-false}
 use mathlib.Core.List.{List, []}
 use Prim.Native.Nat.{ℕ, _-_, _≤_, _<_}
 use native.Mathlib.Omega.{arith}

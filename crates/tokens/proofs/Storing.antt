@@ -20,7 +20,7 @@ use native.Mathlib.Nat.{zero-add, add-zero, suc-add, add-suc}
 use native.Mathlib.Decide.{ℕ-discrete}
 use native.Mathlib.Numerals.{add-one, add-two}
 use native.Mathlib.Omega.{arith}
-use lib.ListN.{length, getD, take, drop, set, length-set, length-append, length-drop}
+use lib.ListN.{length, getD, drop, set, length-set, length-append, length-drop}
 use lib.Seq.{getD-set-same, getD-set-other, ext-getD, drop-set-lt, drop-cons, sets-eq, take-at, drop-append-add, drop-drop}
 use Rattle.tokens.specs.declared.slot.Slot.{Slot}
 use Rattle.tokens.specs.Kinds as kind

@@ -1,7 +1,6 @@
 -- The texts that have a kind of their own: 37 words, seventeen runs, and the beginnings of hexadecimal and binary numbers.
 -- Assumes nothing.
-use Prim.Native.Nat.{ℕ, zero, suc, _+_, _*_}
-use Prim.Native.Char.{code}
+use Prim.Native.Nat.{ℕ, _+_, _*_}
 use mathlib.Core.Bool.{Bool, true, false, cond, _&&_}
 use mathlib.Core.List.{List, [], _∷_, _++_, map}
 use lib.Dec.{eqb, leb}

@@ -9,11 +9,11 @@
 -- Assumes nothing.
 use mathlib.Core.Path.{_≡_, refl, ap, sym, _∙_}
 use mathlib.Core.List.{List, [], _∷_, _++_, append-assoc, append-nil}
-use Prim.Native.Nat.{ℕ, zero, _+_, _-_, _≤_, _<_}
+use Prim.Native.Nat.{ℕ, _+_, _-_, _≤_, _<_}
 use native.Mathlib.Nat.{add-assoc, add-zero}
 use native.Mathlib.Numerals.{add-one}
 use native.Mathlib.Omega.{arith}
-use lib.ListN.{length, take, drop, set, length-append, take-append-drop, length-take, length-drop}
+use lib.ListN.{length, take, drop, set, length-append, take-append-drop, length-drop}
 use lib.Seq.{set-split, take-append-seam, drop-append-add, drop-drop, length-take-le, take-at}
 use Rattle.writer.specs.Written.{onto}
 use Rattle.writer.specs.Promise.{Put}

@@ -1,5 +1,5 @@
 -- `frames::frame_line` meets its contract: refusal 8, or the frame of the bytes. Assumes nothing.
-use mathlib.Core.Path.{_≡_, refl, sym, ap, _∙_}
+use mathlib.Core.Path.{sym, ap, _∙_}
 use native.Mathlib.Omega.{arith}
 use Rattle.frames.specs.Hex.{hexBytes}
 use Rattle.frames.specs.Frames.{checked}

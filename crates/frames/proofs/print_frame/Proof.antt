@@ -1,5 +1,5 @@
 -- `frames::print_frame` meets its contract: the frame of the line, as text. Assumes nothing.
-use mathlib.Core.Path.{_≡_, refl, sym, ap, _∙_}
+use mathlib.Core.Path.{_≡_, sym, ap}
 use native.Mathlib.Omega.{arith}
 use lib.ListN.{length}
 use Rattle.writer.proofs.Puts.{put-as}

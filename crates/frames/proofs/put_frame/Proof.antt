@@ -1,5 +1,4 @@
 -- `frames::put_frame` meets its contract: three copies, one behind the other. Assumes nothing.
-use mathlib.Core.Path.{_≡_, refl, sym, ap, _∙_}
 use native.Mathlib.Omega.{arith}
 use lib.ListN.{take, length-set}
 use lib.Seq.{length-take-le}

@@ -1,9 +1,7 @@
 -- `frames::read_status` meets its contract. Assumes nothing.
 use mathlib.Core.Path.{sym, ap}
 use mathlib.Core.Bool.{Bool, cond}
-use native.Mathlib.Omega.{arith}
 use borrow.Author.Tests.{eq-eqb, ne-eqb}
-use borrow.Author.Needs.{needs}
 use Rattle.frames.proofs.read_status.Statement.{statement}
 use Rattle.frames.proofs.read_status.Tie as tie
 

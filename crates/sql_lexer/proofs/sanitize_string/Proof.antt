@@ -1,12 +1,9 @@
 -- `sql_lexer::sanitize_string` meets its contract: what each stage leaves is what the next asks for, and each answer is a case of
 -- `stringAnswer`. Assumes nothing.
-use mathlib.Core.Path.{_≡_, refl, sym, ap, subst, _∙_}
+use mathlib.Core.Path.{_≡_, refl, ap, subst, _∙_}
 use mathlib.Core.List.{List}
-use Prim.Native.Nat.{ℕ, _≤_}
 use native.Mathlib.Omega.{arith}
 use lib.ListN.{length}
-use Rattle.chars.specs.declared.offset.Offset.{Offset}
-use Rattle.tokens.specs.Answers.{limit}
 use Rattle.tokens.specs.declared.slot.Slot.{Slot}
 use Rattle.scans.specs.Ways.{pinned}
 use Rattle.lexer.specs.Lexes.{Lexes}

@@ -1,5 +1,5 @@
 -- `frames::line::check_line` meets its contract. Assumes nothing.
-use mathlib.Core.Path.{_≡_, refl, sym, ap, _∙_}
+use mathlib.Core.Path.{sym, ap, _∙_}
 use native.Mathlib.Omega.{arith}
 use Rattle.frames.specs.Frames.{badLine}
 use Rattle.frames.proofs.Answers.{too-long, not-hex, odd, passes}

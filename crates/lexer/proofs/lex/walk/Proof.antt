@@ -10,7 +10,6 @@ use Rattle.scans.specs.Whole.{Readable}
 use Rattle.chars.specs.Steps.{offset}
 use Rattle.tokens.specs.Slots.{bare}
 use Rattle.scans.specs.Whole.{starBefore}
-use Rattle.lexer.specs.Marks.{markOf}
 use Rattle.lexer.proofs.Marks.{mark-state, mark-read}
 use Rattle.lexer.proofs.Turns.{Turn, turn, turn-stop, go-end, Walking, walking-start, walking-more, kept-length, all-read, stop-here, all-laid}
 use Rattle.lexer.proofs.lex.walk.Statement.{statement}

@@ -1,8 +1,6 @@
 -- `tokens::check::check_list` meets its contract: the count, then the form of each token. Assumes nothing.
 use mathlib.Core.Path.{_≡_, sym, ap, _∙_}
-use Prim.Native.Nat.{_≤_}
 use native.Mathlib.Omega.{arith}
-use lib.ListN.{length}
 use Rattle.tokens.specs.Slots.{tokensIn}
 use Rattle.tokens.specs.Answers.{Answer, badToken}
 use Rattle.tokens.specs.Checks.{_then_, fine, checkCount, checkForm, checked}

@@ -8,7 +8,7 @@ use Rattle.tokens.specs.Slots.{slotAt, tokensFrom, tokensIn}
 use Rattle.tokens.specs.Formed.{firstPlace}
 use Rattle.tokens.proofs.Places.{place-found, place-more}
 use Rattle.writer.specs.Written.{written}
-use Rattle.writer.specs.Survey.{faulty, Surveyed}
+use Rattle.writer.specs.Survey.{faulty}
 use Rattle.writer.proofs.Lists.{tokenLimit, total-more}
 use borrow.Author.Needs.{needs}
 use Rattle.writer.proofs.survey.survey.Statement.{statement}

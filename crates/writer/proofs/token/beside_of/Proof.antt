@@ -2,7 +2,6 @@
 use mathlib.Core.Path.{_≡_, sym, ap, _∙_}
 use mathlib.Core.List.{List}
 use Prim.Native.Nat.{ℕ, _+_}
-use Prim.Native.Char.{code}
 use native.Mathlib.Omega.{arith}
 use lib.ListN.{getD}
 use Rattle.tokens.specs.Kinds as kind

@@ -1,5 +1,5 @@
 -- `writer::token::put_quoted` meets its contract: three copies, one behind the other. Assumes nothing.
-use mathlib.Core.Path.{_≡_, sym, ap}
+use mathlib.Core.Path.{sym, ap}
 use native.Mathlib.Omega.{arith}
 use lib.ListN.{length}
 use Rattle.tokens.specs.Texts.{textOf}
