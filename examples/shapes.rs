@@ -2,10 +2,10 @@
 //   shapes FILE          the shapes as text, with a word where a statement was refused or stopped short, or values are left
 //   shapes --hex FILE    the frames of the program `shape`: status, stop offset or detail, shape, with its limits
 #[allow(dead_code)]
-#[path = "../compare/src/ours.rs"]
-mod ours;
+#[path = "../include/hayrumble.rs"]
+mod hayrumble;
 
-use ours::Answer;
+use hayrumble::Answer;
 use std::io::Write;
 use std::process::ExitCode;
 
@@ -26,18 +26,10 @@ fn refused(answer: &Answer) -> String {
 
 // The shape as text, and a word on what it leaves open; or why there is none.
 fn text(statement: &[u8]) -> Vec<u8> {
-    // a token takes a byte or more; a shape longer than its statement is rare, and refusal 7 tells its length
-    let mut slots = vec![0; statement.len() * 3];
-    let mut out = vec![0; statement.len()];
-    let mut answer = ours::sanitize_string(statement, &mut slots, &mut out);
-    if answer.refusal == 7 {
-        out = vec![0; answer.detail as usize];
-        answer = ours::sanitize_string(statement, &mut slots, &mut out);
-    }
-    if answer.refusal != 0 {
-        return refused(&answer).into_bytes();
-    }
-    out.truncate(answer.length as usize);
+    let (mut out, answer) = match hayrumble::shape(statement) {
+        Ok(shape) => shape,
+        Err(answer) => return refused(&answer).into_bytes(),
+    };
     if (answer.stop as usize) < statement.len() {
         out.extend(format!("   [stopped short at byte {}]", answer.stop).bytes());
     }
@@ -54,7 +46,7 @@ fn frame(statement: &[u8]) -> Vec<u8> {
     let (status, number, length) = if statement.len() * 2 > LINE {
         (0x18, LINE as u64, 0)
     } else {
-        let answer = ours::sanitize_string(statement, &mut slots, &mut out);
+        let answer = hayrumble::sanitize_string(statement, &mut slots, &mut out);
         match answer.refusal {
             0 => (u8::from((answer.stop as usize) < statement.len()), answer.stop, answer.length as usize),
             number => (0x10 + number as u8, answer.detail, 0),

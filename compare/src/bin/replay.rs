@@ -6,8 +6,6 @@
 // rustc of docs/TOOLCHAIN.md. Tokens, sanitised lists and texts are the Rust's own; refusals, their details, the stop offset and the exposed count
 // are document 01's, worked out from them by the functions that `tools/compare` uses too.
 // The port is not linked: nothing that it answers can come into these files.
-#[path = "../answer.rs"]
-mod answer;
 #[path = "../cases.rs"]
 mod cases;
 #[path = "frames.rs"]
@@ -19,6 +17,10 @@ mod lexer;
 #[path = "../one_call.rs"]
 #[allow(dead_code)]
 mod one_call;
+// The comparing halves of these modules call the port. They are not run here, and the port is not linked: a call would not build.
+#[path = "../../../include/hayrumble.rs"]
+#[allow(dead_code)]
+mod ours;
 #[path = "../random.rs"]
 #[allow(dead_code)]
 mod random;
@@ -35,31 +37,10 @@ mod tokens;
 #[allow(dead_code)]
 mod writer;
 
-// The comparing halves of these modules call the port. They are not run here, and the port is not there.
-mod ours {
-    pub use crate::answer::Answer;
-
-    pub fn lex(_: &[u8], _: &mut [u32]) -> Answer {
-        unreachable!()
-    }
-
-    pub fn sanitize(_: &mut [u32], _: usize) -> Answer {
-        unreachable!()
-    }
-
-    pub fn write(_: &[u8], _: &[u32], _: usize, _: &mut [u8]) -> Answer {
-        unreachable!()
-    }
-
-    pub fn sanitize_string(_: &[u8], _: &mut [u32], _: &mut [u8]) -> Answer {
-        unreachable!()
-    }
-}
-
-use answer::Answer;
 use cases::{Call, Case};
 use frames::hex;
 use lexer::Widths;
+use ours::Answer;
 use std::collections::BTreeSet;
 use std::process::ExitCode;
 use tokens::{kind, WORDS};
