@@ -6,15 +6,24 @@ ghost use Prim.Native.Nat.{_<_};
 ghost use lib.ListN.{length, getD};
 ghost use Rattle.lexer.specs.Marks.{markOf, markTable};
 
-// For each ASCII character the kind of the mark that it is, and None where it is none.
-const MARKS: [u8; 128] =
-    *b"\0\0\0\0\0\0\0\0\0\0\x02\0\0\x02\0\0\0\0\0\0\0\0\0\0\0\0\0\0\0\0\0\0\x01\0\0\0\0\0\0\0\x06\x07\0\0\x04\0\x03\0\0\0\0\0\0\0\0\0\0\0\x0a\x0b\0\0\0\x0c\0\0\0\0\0\0\0\0\0\0\0\0\0\0\0\0\0\0\0\0\0\0\0\0\0\0\0\x08\0\x09\0\0\0\0\0\0\0\0\0\0\0\0\0\0\0\0\0\0\0\0\0\0\0\0\0\0\0\0\0\0\0\0\0\0";
-
-// The table, for the public call to lend: a constant is laid out anew wherever a function names it.
+// For each ASCII character the kind of the mark that it is, and None where it is none. The public call lays it out once, and lends it.
 pub fn mark_table() -> [u8; 128]
     ensures { λ r. ⌜ r ≡ markTable ⌝ }
 {
-    MARKS
+    let mut table = [kind::NONE as u8; 128];
+    table[b' ' as usize] = kind::SPACE as u8;
+    table[b'\n' as usize] = kind::NEWLINE as u8;
+    table[b'\r' as usize] = kind::NEWLINE as u8;
+    table[b'.' as usize] = kind::DOT as u8;
+    table[b',' as usize] = kind::COMMA as u8;
+    table[b'(' as usize] = kind::PARENTHESE_OPEN as u8;
+    table[b')' as usize] = kind::PARENTHESE_CLOSE as u8;
+    table[b'[' as usize] = kind::SQUARE_BRACKET_OPEN as u8;
+    table[b']' as usize] = kind::SQUARE_BRACKET_CLOSE as u8;
+    table[b':' as usize] = kind::COLON as u8;
+    table[b';' as usize] = kind::SEMICOLON as u8;
+    table[b'?' as usize] = kind::PLACEHOLDER as u8;
+    table
 }
 
 // The kind of the mark at an offset; None where none stands there.
