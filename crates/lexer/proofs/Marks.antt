@@ -1,5 +1,6 @@
 -- The table of marks: what it says of a character, and that a mark is read as the rules have it.
 -- getD-marks     the table at a character
+-- each-mark      a character is one of the twelve marks, or none
 -- mark-high      nothing above ASCII is a mark
 -- mark-small, mark-state   a mark's kind is a small number, after which the state is as it was
 -- mark-rule, mark-read     the rules choose the mark, whatever follows it and whatever was read before, and read it
@@ -8,6 +9,7 @@ use mathlib.Core.Path.{_≡_, refl, sym, ap, _∙_}
 use mathlib.Core.Bool.{Bool, true, false}
 use mathlib.Core.List.{List, _∷_}
 use Prim.Native.Nat.{ℕ, _+_, _≤_, _<_}
+use Prim.Native.Char.{code}
 use native.Mathlib.Decide.{decLt}
 use native.Mathlib.Omega.{arith}
 use lib.Dec.{eqb}
@@ -43,31 +45,37 @@ step c k P p f = go (eqb c k) refl
     go true e = rw (eqb-true c k e) p
     go false e = f (eqb-false c k e)
 
-mark-none : (c : ℕ) → (c ≡ 32 → ⊥) → (c ≡ 10 → ⊥) → (c ≡ 13 → ⊥) → (c ≡ 46 → ⊥) → (c ≡ 44 → ⊥) → (c ≡ 40 → ⊥) → (c ≡ 41 → ⊥) → (c ≡ 91 → ⊥) → (c ≡ 93 → ⊥) → (c ≡ 58 → ⊥) → (c ≡ 59 → ⊥) → (c ≡ 63 → ⊥) → markOf c ≡ kind.None
+-- none of the twelve is no mark
+mark-none : (c : ℕ) → (c ≡ code " " → ⊥) → (c ≡ code "\n" → ⊥) → (c ≡ code "\r" → ⊥) → (c ≡ code "." → ⊥) → (c ≡ code "," → ⊥) → (c ≡ code "(" → ⊥) → (c ≡ code ")" → ⊥) → (c ≡ code "[" → ⊥) → (c ≡ code "]" → ⊥) → (c ≡ code ":" → ⊥) → (c ≡ code ";" → ⊥) → (c ≡ code "?" → ⊥) → markOf c ≡ kind.None
 unfolding markOf
 mark-none c n0 n1 n2 n3 n4 n5 n6 n7 n8 n9 n10 n11 =
-    rw (ne-eqb c 32 n0, ne-eqb c 10 n1, ne-eqb c 13 n2, ne-eqb c 46 n3, ne-eqb c 44 n4, ne-eqb c 40 n5, ne-eqb c 41 n6, ne-eqb c 91 n7, ne-eqb c 93 n8, ne-eqb c 58 n9, ne-eqb c 59 n10, ne-eqb c 63 n11)
+    rw (ne-eqb c (code " ") n0, ne-eqb c (code "\n") n1, ne-eqb c (code "\r") n2, ne-eqb c (code ".") n3, ne-eqb c (code ",") n4, ne-eqb c (code "(") n5, ne-eqb c (code ")") n6, ne-eqb c (code "[") n7, ne-eqb c (code "]") n8, ne-eqb c (code ":") n9, ne-eqb c (code ";") n10, ne-eqb c (code "?") n11)
+
+-- a character is one of the twelve, or no mark
+each-mark : (c : ℕ) (P : ℕ → Type 0) → P (code " ") → P (code "\n") → P (code "\r") → P (code ".") → P (code ",") → P (code "(") → P (code ")") → P (code "[") → P (code "]") → P (code ":") → P (code ";") → P (code "?") → (markOf c ≡ kind.None → P c) → P c
+each-mark c P p0 p1 p2 p3 p4 p5 p6 p7 p8 p9 p10 p11 f =
+    step c (code " ") P p0 (λ n0.
+    (step c (code "\n") P p1 (λ n1.
+    (step c (code "\r") P p2 (λ n2.
+    (step c (code ".") P p3 (λ n3.
+    (step c (code ",") P p4 (λ n4.
+    (step c (code "(") P p5 (λ n5.
+    (step c (code ")") P p6 (λ n6.
+    (step c (code "[") P p7 (λ n7.
+    (step c (code "]") P p8 (λ n8.
+    (step c (code ":") P p9 (λ n9.
+    (step c (code ";") P p10 (λ n10.
+    (step c (code "?") P p11 (λ n11.
+    f (mark-none c n0 n1 n2 n3 n4 n5 n6 n7 n8 n9 n10 n11))))))))))))))))))))))))
 
 pub mark-high : (c : ℕ) → 0x80 ≤ c → markOf c ≡ kind.None
-mark-high c h =
-    mark-none c (omega arith) (omega arith) (omega arith) (omega arith) (omega arith) (omega arith) (omega arith) (omega arith) (omega arith) (omega arith) (omega arith) (omega arith)
+mark-high c h = mark-none c (omega arith) (omega arith) (omega arith) (omega arith) (omega arith) (omega arith) (omega arith) (omega arith) (omega arith) (omega arith) (omega arith) (omega arith)
 
 pub mark-small : (c : ℕ) → markOf c ≤ kind.Placeholder
 unfolding markOf
 mark-small c =
-    step c 32 (λ d. markOf d ≤ kind.Placeholder) (omega arith) (λ n0.
-    (step c 10 (λ d. markOf d ≤ kind.Placeholder) (omega arith) (λ n1.
-    (step c 13 (λ d. markOf d ≤ kind.Placeholder) (omega arith) (λ n2.
-    (step c 46 (λ d. markOf d ≤ kind.Placeholder) (omega arith) (λ n3.
-    (step c 44 (λ d. markOf d ≤ kind.Placeholder) (omega arith) (λ n4.
-    (step c 40 (λ d. markOf d ≤ kind.Placeholder) (omega arith) (λ n5.
-    (step c 41 (λ d. markOf d ≤ kind.Placeholder) (omega arith) (λ n6.
-    (step c 91 (λ d. markOf d ≤ kind.Placeholder) (omega arith) (λ n7.
-    (step c 93 (λ d. markOf d ≤ kind.Placeholder) (omega arith) (λ n8.
-    (step c 58 (λ d. markOf d ≤ kind.Placeholder) (omega arith) (λ n9.
-    (step c 59 (λ d. markOf d ≤ kind.Placeholder) (omega arith) (λ n10.
-    (step c 63 (λ d. markOf d ≤ kind.Placeholder) (omega arith) (λ n11.
-    rw (mark-none c n0 n1 n2 n3 n4 n5 n6 n7 n8 n9 n10 n11) (omega arith))))))))))))))))))))))))
+    each-mark c (λ d. markOf d ≤ kind.Placeholder) (omega arith) (omega arith) (omega arith) (omega arith) (omega arith) (omega arith) (omega arith) (omega arith) (omega arith) (omega arith) (omega arith) (omega arith)
+    (λ e. omega (arith, e))
 
 pub mark-state : (c : ℕ) (state : State) → stateAfter (markOf c) state ≡ state
 mark-state c state = rw (ne-eqb (markOf c) kind.Select (λ e. omega (arith, mark-small c)), ne-eqb (markOf c) kind.From (λ e. omega (arith, mark-small c)))
@@ -84,19 +92,7 @@ module _ (w : Ways) (state : State) where
   pub mark-rule : (c : ℕ) (cs : List ℕ) → (markOf c ≡ kind.None → ⊥) → ruleOf w state c cs ≡ Single (markOf c)
   unfolding markOf ruleOf
   mark-rule c cs h =
-      step c 32 (λ d. ruleOf w state d cs ≡ Single (markOf d)) refl (λ n0.
-      (step c 10 (λ d. ruleOf w state d cs ≡ Single (markOf d)) refl (λ n1.
-      (step c 13 (λ d. ruleOf w state d cs ≡ Single (markOf d)) refl (λ n2.
-      (step c 46 (λ d. ruleOf w state d cs ≡ Single (markOf d)) refl (λ n3.
-      (step c 44 (λ d. ruleOf w state d cs ≡ Single (markOf d)) refl (λ n4.
-      (step c 40 (λ d. ruleOf w state d cs ≡ Single (markOf d)) refl (λ n5.
-      (step c 41 (λ d. ruleOf w state d cs ≡ Single (markOf d)) refl (λ n6.
-      (step c 91 (λ d. ruleOf w state d cs ≡ Single (markOf d)) refl (λ n7.
-      (step c 93 (λ d. ruleOf w state d cs ≡ Single (markOf d)) refl (λ n8.
-      (step c 58 (λ d. ruleOf w state d cs ≡ Single (markOf d)) refl (λ n9.
-      (step c 59 (λ d. ruleOf w state d cs ≡ Single (markOf d)) refl (λ n10.
-      (step c 63 (λ d. ruleOf w state d cs ≡ Single (markOf d)) refl (λ n11.
-      absurd (h (mark-none c n0 n1 n2 n3 n4 n5 n6 n7 n8 n9 n10 n11)))))))))))))))))))))))))
+      each-mark c (λ d. ruleOf w state d cs ≡ Single (markOf d)) refl refl refl refl refl refl refl refl refl refl refl refl (λ e. absurd (h e))
 
   mark-out : (star : Bool) (c : ℕ) (cs : List ℕ) → (markOf c ≡ kind.None → ⊥) → readOne w star state c cs ≡ took (markOf c) nothing 0
   unfolding readOne byRule
