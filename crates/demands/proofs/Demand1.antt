@@ -1,10 +1,14 @@
 -- Demand 1: "Every call ends with an answer on every input. The caller checks nothing beforehand. Each refusal is given exactly when its
 -- condition holds and none earlier in document 01's order does, and leaves the lent buffers as stated there."
--- That every call ends with an answer is what the check of a function with no `requires` says. The tables are in specs/Tables.antt.
+-- That every call ends with an answer is what the check of a function says for each input that its precondition takes: it takes every one.
+-- The tables are in specs/Tables.antt.
+-- lex-open, sanitize-open, write-open, string-open, content-open   the precondition, as the checker reads it, holds of every input
 -- lex-follows, sanitize-follows, write-follows, string-follows   the answer follows its table
 -- lex-leaves, sanitize-leaves, write-leaves, string-leaves       and what it leaves in the buffers
 -- `buffer_content` refuses nothing and lends nothing to write in.
 -- Assumes nothing.
+use contract.Lifetimes.{Lfts}
+use borrow.Fn.Kinds.{Dens}
 use mathlib.Core.Path.{_≡_, sym, ap, subst, _∙_}
 use mathlib.Core.Bool.{Bool, true, false, cond}
 use mathlib.Core.List.{List, [], _∷_}
@@ -36,9 +40,35 @@ use Rattle.writer.specs.declared.Wrote.{Wrote}
 use Rattle.sql_lexer.specs.Promise as face
 use Rattle.sql_lexer.specs.Promise.{shape, figures, stringAnswer, stringSlots, stringOut, SanitizesString}
 use Rattle.sql_lexer.specs.declared.Shaped.{Shaped}
+use Rattle.sql_lexer.proofs.lex.Kinds as lex-kinds
+use Rattle.sql_lexer.proofs.lex.Reads as lex-reads
+use Rattle.sql_lexer.proofs.sanitize.Kinds as sanitize-kinds
+use Rattle.sql_lexer.proofs.sanitize.Reads as sanitize-reads
+use Rattle.sql_lexer.proofs.write.Kinds as write-kinds
+use Rattle.sql_lexer.proofs.write.Reads as write-reads
+use Rattle.sql_lexer.proofs.sanitize_string.Kinds as string-kinds
+use Rattle.sql_lexer.proofs.sanitize_string.Reads as string-reads
+use Rattle.sql_lexer.proofs.buffer_content.Kinds as content-kinds
+use Rattle.sql_lexer.proofs.buffer_content.Reads as content-reads
 use Rattle.demands.specs.Terms.{tokensOf, sanitizedOf}
 use Rattle.demands.specs.Tables.{Follows, Leaves, LeavesSlots, lexTable, sanitizeTable, writeTable, stringTable}
 use Rattle.demands.proofs.Checks.{numberOf, long, text-checks, cond-then, cond-over, follows-end, follows-then, check-long, check-valid, check-tokens, check-count, check-form, check-cuts, check-out}
+
+-- ---- the caller checks nothing beforehand
+pub lex-open : (κs : Lfts 2) (a : Dens κs lex-kinds.ps) → lex-reads.Pre κs a
+lex-open κs a = tt
+
+pub sanitize-open : (κs : Lfts 1) (a : Dens κs sanitize-kinds.ps) → sanitize-reads.Pre κs a
+sanitize-open κs a = tt
+
+pub write-open : (κs : Lfts 3) (a : Dens κs write-kinds.ps) → write-reads.Pre κs a
+write-open κs a = tt
+
+pub string-open : (κs : Lfts 3) (a : Dens κs string-kinds.ps) → string-reads.Pre κs a
+string-open κs a = tt
+
+pub content-open : (κs : Lfts 1) (a : Dens κs content-kinds.ps) → content-reads.Pre κs a
+content-open κs a = tt
 
 -- a buffer after an answer
 leaves : {answer : Answer} {before written after : List ℕ} → after ≡ afterwards answer written before → Leaves answer before written after
