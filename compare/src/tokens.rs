@@ -7,8 +7,8 @@ use sql_lexer::{
 /// The words of a slot: kind, first, second.
 pub const WORDS: usize = 3;
 
-/// The kinds by name: the port's own file, which is Rust as well.
-#[path = "../../crates/tokens/src/kind.rt"]
+/// The kinds by name, by document 01.
+#[path = "kind.rs"]
 #[allow(dead_code)]
 pub mod kind;
 

@@ -74,15 +74,26 @@ cases =
     ∷ case "0x 0B 0x1" (bare kind.ZeroX ∷ bare kind.Space ∷ bare kind.ZeroB ∷ bare kind.Space ∷ part kind.Numeric 6 9 ∷ []) 9
     ∷ case "-.5" (bare kind.Minus ∷ bare kind.Dot ∷ part kind.Numeric 2 3 ∷ []) 3
     ∷ case "-1" (part kind.Numeric 0 2 ∷ []) 2
+    -- with a `-` the whole is no `0x`
+    ∷ case "-0x" (part kind.Numeric 0 3 ∷ []) 3
+    ∷ case "-0b" (part kind.Numeric 0 3 ∷ []) 3
     -- a word is tested before a number: U+2167 is alphabetic and numeric
     ∷ case "Ⅷ" (part kind.Other 0 3 ∷ []) 3
     ∷ case "-Ⅷ" (part kind.Numeric 0 4 ∷ []) 4
     -- case is ASCII only: U+212A is no k
-    ∷ case "liKe like" (part kind.Other 0 6 ∷ bare kind.Space ∷ bare kind.Like ∷ []) 11
+    ∷ case "li\u{212A}e like" (part kind.Other 0 6 ∷ bare kind.Space ∷ bare kind.Like ∷ []) 11
     -- a run takes no second `&`, and is looked up whole
     ∷ case "&&" (bare kind.BitwiseAnd ∷ bare kind.BitwiseAnd ∷ []) 2
     ∷ case "a=-=<>" (part kind.Other 0 1 ∷ bare kind.Equal ∷ bare kind.Minus ∷ []) 3
     ∷ case "*from*" (bare kind.Multiply ∷ bare kind.From ∷ bare kind.Multiply ∷ []) 6
+    -- rule 6: a `from` ends what a `select` began, a second `select` begins it anew; no `;`, no `)` and no `where` ends it
+    ∷ case "select from*1" (bare kind.Select ∷ bare kind.Space ∷ bare kind.From ∷ bare kind.Multiply ∷ part kind.Numeric 12 13 ∷ []) 13
+    ∷ case "select*from select*" (bare kind.Select ∷ bare kind.Wildcard ∷ bare kind.From ∷ bare kind.Space ∷ bare kind.Select ∷ bare kind.Wildcard ∷ []) 19
+    ∷ case "select;*" (bare kind.Select ∷ bare kind.Semicolon ∷ bare kind.Wildcard ∷ []) 8
+    ∷ case "select)*" (bare kind.Select ∷ bare kind.ParentheseClose ∷ bare kind.Wildcard ∷ []) 8
+    ∷ case "select where*" (bare kind.Select ∷ bare kind.Space ∷ bare kind.Where ∷ bare kind.Wildcard ∷ []) 13
+    -- U+00A0 is no Space
+    ∷ case "\u{A0}" (record { kind = kind.Unknown; first = 0xA0; second = 0 } ∷ []) 2
     -- anything else, tab included
     ∷ case "\t\\é€" (record { kind = kind.Unknown; first = 9; second = 0 } ∷ record { kind = kind.Unknown; first = 92; second = 0 }
     ∷ part kind.Other 2 4 ∷ record { kind = kind.Unknown; first = 0x20AC; second = 0 } ∷ []) 7
