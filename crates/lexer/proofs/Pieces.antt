@@ -2,7 +2,9 @@
 -- Piece, pieces     the pieces of characters
 -- kinds-pieces      the kinds of a reading are those of its pieces, so they do not depend on offsets
 -- Bounded, one-bounded   a slice lies within the characters of its token
+-- drop-bytes        past the bytes of characters the characters after them are left
 -- Spells, Each      a token spells a piece over a text; each of a list
+-- Stands, stands-on a text from an offset on is certain characters; and so behind the first of them
 -- reading-spells    each token of a reading spells its piece: the text that it carries is that of the piece
 -- Assumes nothing.
 use mathlib.Core.Path.{_≡_, refl, sym, ap, _∙_}
@@ -126,7 +128,7 @@ take-bytes zero cs = refl
 take-bytes (suc n) [] = refl
 take-bytes (suc n) (c ∷ cs) = rw (← encode-length c) (take-append-add (encode c) (encodeAll cs) (bytes n cs) ∙ ap (λ (l : List ℕ). encode c ++ l) (take-bytes n cs))
 
-drop-bytes : (n : ℕ) (cs : List ℕ) → drop (bytes n cs) (encodeAll cs) ≡ encodeAll (drop n cs)
+pub drop-bytes : (n : ℕ) (cs : List ℕ) → drop (bytes n cs) (encodeAll cs) ≡ encodeAll (drop n cs)
 unfolding encodeAll
 drop-bytes zero cs = refl
 drop-bytes (suc n) [] = refl
@@ -163,9 +165,9 @@ Each t (s ∷ ss) [] = ⊥
 Each t (s ∷ ss) (p ∷ ps) = Spells t s p × Each t ss ps
 
 -- the text t from the offset at on is the characters cs
-record Stands (t : List ℕ) (at : ℕ) (cs : List ℕ) : Type 0 where
-  inside : at ≤ length t
-  are : drop at t ≡ encodeAll cs
+pub record Stands (t : List ℕ) (at : ℕ) (cs : List ℕ) : Type 0 where
+  pub inside : at ≤ length t
+  pub are : drop at t ≡ encodeAll cs
 
 slice-text : (t : List ℕ) (at : ℕ) (cs : List ℕ) → Stands t at cs → (m n : ℕ) → m ≤ n → content t (at + bytes m cs) (at + bytes n cs) ≡ encodeAll (take (n - m) (drop m cs))
 slice-text t at cs v m n h =
@@ -197,7 +199,7 @@ onward-spells : (t : List ℕ) (o : Out) (at : ℕ) (cs : List ℕ) (f : ℕ →
 onward-spells t halt at cs f g v p b h = tt
 onward-spells t (took k x n) at cs f g v p b h = (slot-spells t at cs k x n v p b, h k n)
 
-stands-on : (t : List ℕ) (at c : ℕ) (cs : List ℕ) → Stands t at (c ∷ cs) → Stands t (at + width c) cs
+pub stands-on : (t : List ℕ) (at c : ℕ) (cs : List ℕ) → Stands t at (c ∷ cs) → Stands t (at + width c) cs
 unfolding encodeAll
 stands-on t at c cs v =
     let l : length t - at ≡ length (encode c ++ encodeAll cs) = sym (length-drop at t) ∙ ap length (v .are) in
