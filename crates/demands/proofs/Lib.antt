@@ -3,5 +3,6 @@ pub mod Demand1
 pub mod Once
 pub mod Demand2
 pub mod Demand3
+pub mod Rooms
 pub mod Rows
 pub mod ShutOut

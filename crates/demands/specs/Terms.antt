@@ -47,7 +47,8 @@ pub record Alike (x y : List ℕ) : Type 0 where
   pub kinds : slots.kinds (tokensOf x) ≡ slots.kinds (tokensOf y)
   pub texts : (i : ℕ) → Survives x i → textAt x i ≡ textAt y i
 
--- what the one call answers, but for the stop offset: the token count, the exposed count and the shape's length, or the refusal
+-- what the one call answers, but for the stop offset: the token count, the exposed count and the shape's length, or the refusal; of reading,
+-- the token count or the refusal
 abbrev pub butStop : Answer → Answer
 butStop (done ns) = done (getD ns 0 0 ∷ getD ns 2 0 ∷ getD ns 3 0 ∷ [])
 butStop (refused k d) = refused k d
@@ -56,6 +57,11 @@ butStop (refused k d) = refused k d
 abbrev pub shapeIn : Answer → List ℕ → List ℕ
 shapeIn (done ns) out = take (getD ns 3 0) out
 shapeIn (refused k d) out = []
+
+-- the text that writing leaves at the front of the output
+abbrev pub textIn : Answer → List ℕ → List ℕ
+textIn (done ns) out = take (getD ns 0 0) out
+textIn (refused k d) out = []
 
 -- the three quotes and the kinds of their tokens
 abbrev pub Quote : ℕ → ℕ → Type 0

@@ -81,7 +81,7 @@ cases =
     ∷ case "Ⅷ" (part kind.Other 0 3 ∷ []) 3
     ∷ case "-Ⅷ" (part kind.Numeric 0 4 ∷ []) 4
     -- case is ASCII only: U+212A is no k
-    ∷ case "li\u{212A}e like" (part kind.Other 0 6 ∷ bare kind.Space ∷ bare kind.Like ∷ []) 11
+    ∷ case "liKe like" (part kind.Other 0 6 ∷ bare kind.Space ∷ bare kind.Like ∷ []) 11
     -- a run takes no second `&`, and is looked up whole
     ∷ case "&&" (bare kind.BitwiseAnd ∷ bare kind.BitwiseAnd ∷ []) 2
     ∷ case "a=-=<>" (part kind.Other 0 1 ∷ bare kind.Equal ∷ bare kind.Minus ∷ []) 3
@@ -93,7 +93,7 @@ cases =
     ∷ case "select)*" (bare kind.Select ∷ bare kind.ParentheseClose ∷ bare kind.Wildcard ∷ []) 8
     ∷ case "select where*" (bare kind.Select ∷ bare kind.Space ∷ bare kind.Where ∷ bare kind.Wildcard ∷ []) 13
     -- U+00A0 is no Space
-    ∷ case "\u{A0}" (record { kind = kind.Unknown; first = 0xA0; second = 0 } ∷ []) 2
+    ∷ case "\u{a0}" (record { kind = kind.Unknown; first = 0xA0; second = 0 } ∷ []) 2
     -- anything else, tab included
     ∷ case "\t\\é€" (record { kind = kind.Unknown; first = 9; second = 0 } ∷ record { kind = kind.Unknown; first = 92; second = 0 }
     ∷ part kind.Other 2 4 ∷ record { kind = kind.Unknown; first = 0x20AC; second = 0 } ∷ []) 7
