@@ -5,4 +5,5 @@ pub mod Demand2
 pub mod Demand3
 pub mod Rooms
 pub mod Rows
+pub mod Numbers
 pub mod ShutOut
