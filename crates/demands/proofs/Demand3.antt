@@ -19,7 +19,6 @@ use native.Mathlib.Decide.{ℕ-discrete}
 use lib.Dec.{ltb}
 use lib.ListN.{length, getD, take, drop}
 use lib.Seq.{take-append-seam}
-use Rattle.chars.specs.Utf8.{chars}
 use Rattle.tokens.specs.Kinds as kind
 use Rattle.tokens.specs.Slots.{wordsPerSlot, room}
 use Rattle.tokens.specs.Answers.{Answer, done, noRoomTokens, noRoomOut}
@@ -28,7 +27,6 @@ use Rattle.tokens.proofs.Checking.{text-within}
 use Rattle.lexer.specs.declared.rule.State.{State}
 use Rattle.lexer.specs.declared.rule.Rule.the-variants.{Quoted}
 use Rattle.scans.specs.Ways.{pinned}
-use Rattle.scans.specs.Scans.{quoteLen}
 use Rattle.lexer.specs.Rules.{ruleOf}
 use Rattle.lexer.specs.Read.{partOf, stopAt, reading}
 use Rattle.lexer.specs.Lexes.{validAnswer, lexAnswer}
@@ -44,7 +42,7 @@ use Rattle.sql_lexer.specs.declared.Shaped.{Shaped}
 use Rattle.sql_lexer.specs.declared.Shaped.the-variants.{Done}
 use Rattle.sql_lexer.proofs.Same.{kept-same, put-same, sanitised-same}
 use Rattle.sql_lexer.proofs.Content.{Apart, apart}
-use Rattle.demands.specs.Terms.{Fit, tokensOf, sanitizedOf, at, Survives, textAt, Alike, butStop, shapeIn, Quote}
+use Rattle.demands.specs.Terms.{Fit, tokensOf, sanitizedOf, at, Survives, textAt, Alike, butStop, shapeIn, Quote, Closes}
 use Rattle.demands.proofs.Demand1.{string-follows, string-leaves}
 
 -- ---- the first half
@@ -161,7 +159,7 @@ quoting pre q content post = pre ++ q ∷ (content ++ q ∷ post)
 -- the quote after the content d is the first that closes it
 module _ (pre c d post : List ℕ) (q k : ℕ) (quote : Quote q k) (fit-x : Fit (quoting pre q c post)) (fit-y : Fit (quoting pre q d post)) (i : ℕ)
     (token : at (tokensOf (quoting pre q c post)) i ≡ partOf k (length pre + 1) (length pre + 1 + length c)) (changed : Survives (quoting pre q c post) i → ⊥)
-    (closes : quoteLen q (chars (d ++ q ∷ post)) ≡ length (chars d)) where
+    (closes : Closes q d post) where
   content-alike : Alike (quoting pre q c post) (quoting pre q d post)
   content-alike =
       let is = is-quote q k quote in

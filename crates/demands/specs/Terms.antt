@@ -1,18 +1,19 @@
 -- The words of demand 3, as definitions. Assumes nothing.
 use mathlib.Core.Path.{_≡_}
-use mathlib.Core.List.{List, [], _∷_}
+use mathlib.Core.List.{List, [], _∷_, _++_}
 use mathlib.Core.Logic.{_⊎_}
 use mathlib.Core.Option.{none}
 use Prim.Native.Nat.{ℕ, _≤_}
 use Prim.Native.Char.{code}
 use lib.ListN.{length, getD, take}
-use Rattle.chars.specs.Utf8.{firstBad}
+use Rattle.chars.specs.Utf8.{chars, firstBad}
 use Rattle.tokens.specs.Kinds as kind
 use Rattle.tokens.specs.declared.slot.Slot.{Slot}
 use Rattle.tokens.specs.Slots.{bare}
 use Rattle.tokens.specs.Slots as slots
 use Rattle.tokens.specs.Answers.{Answer, done, refused, limit}
 use Rattle.scans.specs.Ways.{pinned}
+use Rattle.scans.specs.Scans.{quoteLen}
 use Rattle.lexer.specs.Read.{tokens, reading}
 use Rattle.sql_lexer.specs.Promise.{sanitizedTokens}
 use Rattle.writer.specs.Written.{tokenText}
@@ -68,3 +69,7 @@ abbrev pub Quote : ℕ → ℕ → Type 0
 Quote q k =
     ((q ≡ code "`") × (k ≡ kind.Backticked))
     ⊎ (((q ≡ code "'") × (k ≡ kind.SingleQuoted)) ⊎ ((q ≡ code "\"") × (k ≡ kind.DoubleQuoted)))
+
+-- the quote q after the content d, with `post` behind it, is the first that closes it
+abbrev pub Closes : ℕ → List ℕ → List ℕ → Type 0
+Closes q d post = quoteLen q (chars (d ++ q ∷ post)) ≡ length (chars d)
