@@ -1,4 +1,5 @@
-/* The calls through include/hayrumble.h, from C, on statements of document 01: a shape, a stop, each refusal. `tools/compare` builds and runs it. */
+/* The calls through include/hayrumble.h, from C, on statements of document 01: a shape, a stop, each refusal; kinds by their names; buffers at the edge of
+ * what the header allows. `tools/compare` builds and runs it. */
 #include "../include/hayrumble.h"
 #include <stdio.h>
 #include <string.h>
@@ -20,8 +21,8 @@ static hay_answer refused(uint64_t refusal, uint64_t detail) {
 }
 
 static void shape(const char *statement, const char *shape, hay_answer want) {
-    uint32_t slots[300];
-    uint8_t out[100];
+    uint32_t slots[300] = {0};
+    uint8_t out[100] = {0};
     hay_answer got = hay_sanitize_string((const uint8_t *)statement, strlen(statement), slots, 300, out, 100);
     expect(statement, got, want);
     if (got.length != strlen(shape) || memcmp(out, shape, strlen(shape)) != 0) {
@@ -30,10 +31,21 @@ static void shape(const char *statement, const char *shape, hay_answer want) {
     }
 }
 
+static void kinds(const char *statement, const uint32_t *want, size_t count) {
+    uint32_t slots[300] = {0};
+    hay_answer got = hay_lex((const uint8_t *)statement, strlen(statement), slots, 300);
+    for (size_t place = 0; place < count || place < got.tokens; place++) {
+        if (place >= count || place >= got.tokens || slots[place * 3] != want[place]) {
+            wrong++;
+            printf("header: DIFFERENT: %s: kind %u at place %zu\n", statement, (unsigned)slots[place * 3], place);
+        }
+    }
+}
+
 int main(void) {
     static uint8_t text[1048577];
-    uint32_t slots[30];
-    uint8_t out[30];
+    uint32_t slots[30] = {0};
+    uint8_t out[30] = {0};
     memset(text, 'a', sizeof text);
     shape("a =< 1", "a <= ?", (hay_answer){0, 0, 5, 6, 0, 6});
     shape("a ! b", "a ", (hay_answer){0, 0, 2, 2, 0, 2});
@@ -48,6 +60,13 @@ int main(void) {
     expect("4", hay_sanitize(slots, 8, 3), refused(4, 2));
     slots[3] = 84;
     expect("5", hay_sanitize(slots, 9, 3), refused(5, 1));
+    kinds("select from*`a`", (uint32_t[]){HAY_SELECT, HAY_SPACE, HAY_FROM, HAY_MULTIPLY, HAY_BACKTICKED}, 5);
+    kinds("x'f'=<$1;\t", (uint32_t[]){HAY_X, HAY_SINGLE_QUOTED, HAY_EQUAL_OR_LESS_THAN, HAY_NUMBERED_PLACEHOLDER, HAY_SEMICOLON, HAY_UNKNOWN}, 6);
+    /* no text, no slots and no output: any pointers that are not null and aligned */
+    expect("nothing lent", hay_sanitize_string(text, 0, slots, 0, out, 0), (hay_answer){0, 0, 0, 0, 0, 0});
+    /* a text from any byte on; as many slots as bytes suffice where each byte is a token; what is only read may overlap */
+    expect("as many slots as bytes", hay_lex((const uint8_t *)"x(((((((((("+1, 10, slots, 30), (hay_answer){0, 0, 10, 10, 0, 0});
+    expect("read twice", hay_write((const uint8_t *)slots, 3, slots, 30, 1, out, 30), (hay_answer){0, 0, 0, 0, 0, 1});
     printf("header: the calls through include/hayrumble.h from C: %d differences\n", wrong);
     return wrong != 0;
 }

@@ -1,9 +1,19 @@
 /* Hayrumble for C: the shape of an SQL statement, and the three stages that make it.
  *
- * Link with libsql_lexer_c.a (`tools/archive sql_lexer_c` prints its folder). Every call answers on every input, reads and writes only the
- * memory that is lent to it, keeps no state and allocates nothing. A pointer with length 0 may be any aligned pointer that is not null.
+ * Link with libsql_lexer_c.a (`tools/archive sql_lexer_c` prints its folder). Every call that keeps to what is said here answers, whatever the
+ * bytes and words lent to it hold. It reads and writes only the memory that is lent to it, keeps no state and allocates nothing, so calls may be
+ * made from several threads at once, each with memory of its own.
  *
- * A slot is three words: the kind's number and two words that go with it. `words` counts words, so 9 words hold 3 tokens, and 8 hold 2.
+ * What the caller sees to:
+ *   - A pointer is not null, also where its length is 0; there it may be any other, as long as it is aligned.
+ *   - `slots` is aligned for uint32_t, as any array of uint32_t is. Text and output may start at any byte.
+ *   - Behind a pointer lie as many bytes, or words, as its length says. All of them hold some value: an array without an initialiser is cleared
+ *     first. They stay as they are until the call returns, but for what the call itself writes.
+ *   - Memory that a call may write (`slots` and `out` without const) overlaps no other memory lent to the same call. What is only read may.
+ *   - Lengths are at most PTRDIFF_MAX bytes, as those of C's objects are.
+ *
+ * A slot is three words: the kind's number (hay_kind) and two words that go with it. `words` counts words, so 9 words hold 3 tokens, and 8 hold 2.
+ * As many slots as the text has bytes, 3 words a byte, always suffice: each token takes a byte or more of it.
  */
 #ifndef HAYRUMBLE_H
 #define HAYRUMBLE_H
@@ -14,6 +24,44 @@
 #ifdef __cplusplus
 extern "C" {
 #endif
+
+/* The kinds of tokens. HAY_OTHER and HAY_CHARSET to HAY_NUMBERED_PLACEHOLDER carry the byte offsets at which their text starts and ends, HAY_UNKNOWN
+ * its character and 0, all others 0 and 0. */
+typedef enum {
+    /* blanked by the sanitiser */
+    HAY_NONE = 0,
+    /* single characters */
+    HAY_SPACE = 1, HAY_NEWLINE = 2, HAY_DOT = 3, HAY_COMMA = 4, HAY_WILDCARD = 5, HAY_PARENTHESE_OPEN = 6,
+    HAY_PARENTHESE_CLOSE = 7, HAY_SQUARE_BRACKET_OPEN = 8, HAY_SQUARE_BRACKET_CLOSE = 9, HAY_COLON = 10, HAY_SEMICOLON = 11,
+    /* put in by the sanitiser, and values that are words */
+    HAY_PLACEHOLDER = 12, HAY_ELLIPSIS = 13, HAY_NULL = 14, HAY_TRUE = 15, HAY_FALSE = 16,
+    /* operators: arithmetic */
+    HAY_MULTIPLY = 17, HAY_DIVIDE = 18, HAY_MODULO = 19, HAY_PLUS = 20, HAY_MINUS = 21,
+    /* logical */
+    HAY_IN = 22, HAY_NOT = 23, HAY_LIKE = 24, HAY_ILIKE = 25, HAY_RLIKE = 26, HAY_GLOB = 27, HAY_MATCH = 28, HAY_REGEXP = 29,
+    HAY_THEN = 30, HAY_ELSE = 31,
+    /* comparison */
+    HAY_EQUAL = 32, HAY_EQUAL2 = 33, HAY_NULL_SAFE_EQUAL = 34, HAY_GREATER_THAN_OR_EQUAL = 35, HAY_LESS_THAN_OR_EQUAL = 36,
+    HAY_EQUAL_OR_GREATER_THAN = 37, HAY_EQUAL_OR_LESS_THAN = 38, HAY_EQUAL_WITH_ARROWS = 39, HAY_NOT_EQUAL = 40,
+    HAY_GREATER_THAN = 41, HAY_LESS_THAN = 42,
+    /* bitwise, and those of JSON */
+    HAY_LEFT_SHIFT = 43, HAY_RIGHT_SHIFT = 44, HAY_BITWISE_AND = 45, HAY_BITWISE_OR = 46, HAY_SPECIFIED_PATH = 47,
+    HAY_SPECIFIED_PATH_AS_TEXT = 48,
+    /* words */
+    HAY_SELECT = 49, HAY_FROM = 50, HAY_WHERE = 51, HAY_AND = 52, HAY_OR = 53, HAY_UPDATE = 54, HAY_SET = 55, HAY_INSERT = 56,
+    HAY_INTO = 57, HAY_VALUES = 58, HAY_INNER = 59, HAY_JOIN = 60, HAY_ON = 61, HAY_LIMIT = 62, HAY_OFFSET = 63,
+    HAY_BETWEEN = 64, HAY_ARRAY = 65,
+    /* any other word: carries its offsets */
+    HAY_OTHER = 66,
+    /* what may stand before a value */
+    HAY_BINARY = 67, HAY_DATE = 68, HAY_TIME = 69, HAY_TIMESTAMP = 70, HAY_X = 71, HAY_ZERO_X = 72, HAY_B = 73, HAY_ZERO_B = 74,
+    HAY_N = 75,
+    /* carry their offsets */
+    HAY_CHARSET = 76, HAY_BACKTICKED = 77, HAY_DOUBLE_QUOTED = 78, HAY_SINGLE_QUOTED = 79, HAY_NUMERIC = 80, HAY_COMMENT = 81,
+    HAY_NUMBERED_PLACEHOLDER = 82,
+    /* any other character: carries it */
+    HAY_UNKNOWN = 83
+} hay_kind;
 
 /* An answer. refusal 0: answered, and the fields that the call has are set. Else why it was refused, and its detail:
  *   1  the text is over 1,048,576 bytes                       its length

@@ -15,8 +15,18 @@ macro_rules! numbered {
     };
 }
 
+// The names of a table and the kinds by name.
+macro_rules! table {
+    ($(| $start:literal: $($name:ident)*)*) => {
+        numbered! { 0; $(| $start: $($name)*)* }
+
+        /// All names in their order.
+        pub const NAMES: [&str; 84] = [$($(stringify!($name)),*),*];
+    };
+}
+
 #[rustfmt::skip]
-numbered! { 0;
+table! {
     | 0: NONE
     | 1: SPACE NEWLINE DOT COMMA WILDCARD PARENTHESE_OPEN PARENTHESE_CLOSE SQUARE_BRACKET_OPEN SQUARE_BRACKET_CLOSE COLON SEMICOLON
     | 12: PLACEHOLDER ELLIPSIS NULL TRUE FALSE

@@ -257,8 +257,19 @@ pub fn tokens(slots: &[u32]) -> Vec<Token> {
     slots.chunks_exact(WORDS).map(|w| token(w[0], w[1], w[2])).collect()
 }
 
-/// Each kind to its token and back. The two matches above are each other's inverse.
+/// The names and numbers that a header gives the kinds, each name behind one mark and its number behind another.
+fn named(header: &str, before: &str, between: &str) -> Vec<(String, usize)> {
+    let is_name = |name: &str| name.chars().all(|c| c.is_ascii_uppercase() || c.is_ascii_digit() || c == '_');
+    let number = |rest: &str| rest.split(|c: char| !c.is_ascii_digit()).next().and_then(|digits| digits.parse().ok());
+    let pairs = header.split(before).skip(1).filter_map(|rest| rest.split_once(between)).filter(|(name, _)| is_name(name));
+    pairs.filter_map(|(name, rest)| Some((name.to_string(), number(rest)?))).collect()
+}
+
+/// Each kind to its token and back: the two matches above are each other's inverse. And the kinds' names and numbers in the two headers are these.
 pub fn check() {
+    let kinds: Vec<(String, usize)> = kind::NAMES.iter().enumerate().map(|(number, name)| (name.to_string(), number)).collect();
+    assert_eq!(named(include_str!("../../include/hayrumble.h"), " HAY_", " = "), kinds, "include/hayrumble.h");
+    assert_eq!(named(include_str!("../../include/hayrumble.rs"), " pub const ", ": u32 = "), kinds, "include/hayrumble.rs");
     for kind in 0..=kind::UNKNOWN {
         let (first, second) = match kind {
             k if carries_offsets(k) => (7, 11),
