@@ -3,11 +3,12 @@
 -- needed). The one call's are in Demand3.antt, `same-call`.
 -- same-read    `lex` answers the same but for the stop offset: the same refusal 3 with the same detail, or the same token count
 -- same-write   `write` answers the same: the same refusal 7 with the same detail, or the same length; and leaves the same text
+-- slots-suffice   with as many slots as bytes the condition of refusal 3 does not hold
 -- Assumes nothing.
 use mathlib.Core.Path.{_≡_, refl, sym, ap, _∙_}
 use mathlib.Core.Bool.{Bool, true, false, cond}
 use mathlib.Core.List.{List, [], _∷_}
-use Prim.Native.Nat.{ℕ, _/_}
+use Prim.Native.Nat.{ℕ, _/_, _≤_}
 use native.Mathlib.Omega.{arith}
 use lib.Dec.{ltb}
 use lib.ListN.{length, drop}
@@ -23,6 +24,7 @@ use Rattle.lexer.specs.Lexes as lexer
 use Rattle.lexer.specs.Lexes.{validAnswer, lexAnswer, Lexes}
 use Rattle.lexer.specs.declared.lex.Lexed.{Lexed}
 use Rattle.lexer.proofs.Formed.{all-formed}
+use Rattle.lexer.proofs.Turns.{tokens-few}
 use Rattle.sanitizer.proofs.Keeping.{accepted-sanitized}
 use Rattle.writer.specs.Written.{written, onto}
 use Rattle.writer.specs.Promise as writer
@@ -31,6 +33,7 @@ use Rattle.writer.specs.declared.Wrote.{Wrote}
 use Rattle.sql_lexer.specs.Promise.{sanitizedTokens, shape}
 use Rattle.sql_lexer.proofs.Uncut.{reading-uncut, sanitised-uncut, uncut-fine}
 use Rattle.demands.specs.Terms.{Fit, tokensOf, sanitizedOf, Alike, butStop, textIn}
+use Rattle.demands.specs.Tables.{NoRoomTokens}
 use Rattle.demands.proofs.Demand3.{same-shape, same-counts}
 
 -- ---- reading
@@ -105,3 +108,7 @@ module _ (x y : List ℕ) (fit-x : Fit x) (fit-y : Fit y) (alike : Alike x y) wh
           ∙ ap (λ (b : Answer). textIn b (afterwards b (onto (shape pinned text) room) room)) answered
           ∙ text-in (checkCount zs n) (shape pinned text) room
           ∙ ap (λ (b : Answer). textIn b (shape pinned text)) (sym answered)
+
+-- ---- enough slots
+pub slots-suffice : (text ws : List ℕ) → length text ≤ room ws → (d : ℕ) → NoRoomTokens text ws d → ⊥
+slots-suffice text ws h d e = omega (arith, tokens-few pinned text, e .0)
