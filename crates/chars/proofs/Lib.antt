@@ -9,6 +9,7 @@ mod Blocks
 pub mod Encoded
 pub mod Whole
 pub mod Rfc
+pub mod Breaks
 pub mod Verdicts
 pub mod Halving
 pub mod Spelled
