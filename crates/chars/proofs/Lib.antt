@@ -12,5 +12,6 @@ pub mod Rfc
 pub mod Breaks
 pub mod Verdicts
 pub mod Halving
+pub mod Rule
 pub mod Spelled
 mod Examples

@@ -3,6 +3,7 @@
 -- lex-rules, sanitize-rules, write-rules, string-rules, content-rules   the contract of each public function, as the checker reads it off its
 --                  clauses: the answer and every word of the lent buffers, by the definitions
 -- valid-encodes, encodes-valid   a text is valid exactly when it is the encoding of some scalar values
+-- bad-breaks, breaks-bad, breaks-once   the offset that refusal 2 gives is the one at which the encoding of scalar values breaks off
 -- Assumes nothing.
 use contract.Lifetimes.{Lfts}
 use borrow.Fn.Kinds.{Dens, resT, endedOf}
@@ -11,12 +12,13 @@ use denote.Ref.{now}
 use mathlib.Core.Path.{_≡_, sym}
 use mathlib.Core.Bool.{true}
 use mathlib.Core.List.{List}
-use mathlib.Core.Option.{none}
+use mathlib.Core.Option.{none, some}
 use Prim.Native.Nat.{ℕ}
-use Rattle.chars.specs.Utf8.{chars, encodeAll, allScalars, firstBad}
+use Rattle.chars.specs.Utf8.{chars, encodeAll, allScalars, firstBad, BreaksAt}
 use Rattle.chars.proofs.Whole.{whole}
 use Rattle.chars.proofs.Encoded.{encoded-valid}
 use Rattle.chars.proofs.Rfc.{chars-scalars}
+use Rattle.chars.proofs.Breaks as offset
 use Rattle.tokens.specs.Content.{content}
 use Rattle.lexer.specs.Lexes.{Lexes}
 use Rattle.sanitizer.specs.Promise.{Sanitizes}
@@ -64,3 +66,12 @@ valid-encodes text e = (chars text, chars-scalars text, sym (whole text e))
 
 pub encodes-valid : (cs : List ℕ) → allScalars cs ≡ true → firstBad (encodeAll cs) ≡ none
 encodes-valid cs e = encoded-valid cs e
+
+pub bad-breaks : (text : List ℕ) (at : ℕ) → firstBad text ≡ some at → BreaksAt text at
+bad-breaks = offset.bad-breaks
+
+pub breaks-bad : (text : List ℕ) (at : ℕ) → BreaksAt text at → firstBad text ≡ some at
+breaks-bad = offset.breaks-bad
+
+pub breaks-once : (text : List ℕ) (at at′ : ℕ) → BreaksAt text at → BreaksAt text at′ → at ≡ at′
+breaks-once = offset.breaks-once
