@@ -5,13 +5,13 @@
 -- Assumes nothing.
 use mathlib.Core.Path.{_≡_, refl, sym, ap, _∙_}
 use mathlib.Core.Bool.{true}
-use mathlib.Core.Option.{Option, none, some}
+use mathlib.Core.Option.{some}
 use mathlib.Core.List.{List, [], _∷_, _++_, append-assoc}
 use Prim.Native.Nat.{ℕ, zero, suc, _+_, _<_}
 use native.Mathlib.Omega.{arith}
-use lib.ListN.{length, take, drop, take-append-drop, length-drop}
+use lib.ListN.{length, drop, take-append-drop, length-drop}
 use lib.Seq.{length-take-le, take-append-seam, drop-append-seam}
-use Rattle.chars.specs.Utf8.{Front, char, bad, end, front, onFront, charsFrom, chars, badFrom, firstBad, isScalar, encode, encodeAll, allScalars, BreaksAt}
+use Rattle.chars.specs.Utf8.{Front, char, bad, end, front, charsFrom, chars, badFrom, firstBad, encode, encodeAll, allScalars, BreaksAt}
 use Rattle.chars.proofs.Joining.{drop-at}
 use Rattle.chars.proofs.Scalars.{clash, front-read, read-back}
 use Rattle.chars.proofs.Whole.{written, front-some}

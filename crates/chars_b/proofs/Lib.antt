@@ -1,2 +1,2 @@
 mod Counting
-mod Once
+pub mod Once

@@ -19,7 +19,7 @@ use Rattle.chars.proofs.Whole.{whole}
 use Rattle.chars.proofs.Encoded.{encoded-valid}
 use Rattle.chars.proofs.Rfc.{chars-scalars}
 use Rattle.chars.proofs.Breaks as offset
-use Rattle.tokens.specs.Content.{content}
+use Rattle.tokens.specs.Content.{HandsOut}
 use Rattle.lexer.specs.Lexes.{Lexes}
 use Rattle.sanitizer.specs.Promise.{Sanitizes}
 use Rattle.writer.specs.Promise.{Writes}
@@ -57,7 +57,7 @@ string-rules κs a r s p = p
 
 -- `buffer_content(text, start, end)`
 pub content-rules : (κs : Lfts 1) (a : Dens κs content-kinds.ps) (r : resT content-kinds.r κs .Denot) (s : AtExit (endedOf 1 content-kinds.ps content-kinds.r) κs)
-    → content-reads.Post κs a r s → now r ≡ content (now (a .0)) (a .1 .0 .0) (a .1 .1 .0 .0)
+    → content-reads.Post κs a r s → HandsOut (a .0) (a .1 .0 .0) (a .1 .1 .0 .0) r
 content-rules κs a r s p = p
 
 -- ---- validity, RFC 3629
