@@ -4,6 +4,7 @@
 --                  clauses: the answer and every word of the lent buffers, by the definitions
 -- valid-encodes, encodes-valid   a text is valid exactly when it is the encoding of some scalar values
 -- bad-breaks, breaks-bad, breaks-once   the offset that refusal 2 gives is the one at which the encoding of scalar values breaks off
+-- tables-ruled     the tables of letters and digits meet the rule at each of their pairs
 -- Assumes nothing.
 use contract.Lifetimes.{Lfts}
 use borrow.Fn.Kinds.{Dens, resT, endedOf}
@@ -19,6 +20,9 @@ use Rattle.chars.proofs.Whole.{whole}
 use Rattle.chars.proofs.Encoded.{encoded-valid}
 use Rattle.chars.proofs.Rfc.{chars-scalars}
 use Rattle.chars.proofs.Breaks as offset
+use Rattle.chars.specs.Pairs.{alphabeticPairs, numericPairs}
+use Rattle.chars.specs.Table.{Ruled}
+use Rattle.chars.proofs.Rule.{alphabetic-ruled, numeric-ruled}
 use Rattle.tokens.specs.Content.{HandsOut}
 use Rattle.lexer.specs.Lexes.{Lexes}
 use Rattle.sanitizer.specs.Promise.{Sanitizes}
@@ -75,3 +79,6 @@ breaks-bad = offset.breaks-bad
 
 pub breaks-once : (text : List ℕ) (at at′ : ℕ) → BreaksAt text at → BreaksAt text at′ → at ≡ at′
 breaks-once = offset.breaks-once
+
+pub tables-ruled : Ruled alphabeticPairs × Ruled numericPairs
+tables-ruled = (alphabetic-ruled, numeric-ruled)
