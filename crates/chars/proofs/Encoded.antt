@@ -1,15 +1,17 @@
 -- An encoded list of scalar values is read as those values: the definition of `chars` is RFC 3629's.
--- chars-encoded  its characters are the values
--- encoded-valid  it has no bad byte
+-- chars-encoded   its characters are the values
+-- encoded-passed  the first bad byte is looked for after it
+-- encoded-valid   it has no bad byte
 -- Assumes nothing.
-use mathlib.Core.Path.{_≡_, refl, ap, _∙_}
+use mathlib.Core.Path.{_≡_, refl, sym, ap, _∙_}
 use mathlib.Core.Bool.{Bool, true, false}
 use mathlib.Core.Option.{none}
-use mathlib.Core.List.{List, [], _∷_, _++_}
+use mathlib.Core.List.{List, [], _∷_, _++_, append-nil, append-assoc}
 use Prim.Native.Nat.{ℕ, suc, _+_, _-_, _<_}
+use native.Mathlib.Nat.{add-zero}
 use native.Mathlib.Omega.{arith}
 use lib.Dec.{ltb}
-use lib.ListN.{length}
+use lib.ListN.{length, length-append}
 use lib.Seq.{drop-append-seam}
 use Rattle.chars.specs.Utf8.{chars, charsFrom, badFrom, firstBad, isScalar, encode, encodeAll, allScalars}
 use Rattle.chars.proofs.Bytes.{and-l, and-r}
@@ -34,14 +36,18 @@ chars-encoded (s ∷ ss) e =
     front-chars (encode s ++ encodeAll ss) s (length (encode s) - 1) (read-back s (encodeAll ss) (and-l (isScalar s) (allScalars ss) e))
     ∙ rw (n, drop-append-seam (encode s) (encodeAll ss)) (ap (λ (l : List ℕ). s ∷ l) (chars-encoded ss (and-r (isScalar s) (allScalars ss) e)))
 
-valid-from : (at : ℕ) (ss : List ℕ) → allScalars ss ≡ true → badFrom 0 at (encodeAll ss) ≡ none
+pub encoded-passed : (at : ℕ) (ss rest : List ℕ) → allScalars ss ≡ true → badFrom 0 at (encodeAll ss ++ rest) ≡ badFrom 0 (at + length (encodeAll ss)) rest
 unfolding encodeAll allScalars
-valid-from at [] e = unfold badFrom in refl
-valid-from at (s ∷ ss) e =
+encoded-passed at [] rest e = rw add-zero
+encoded-passed at (s ∷ ss) rest e =
+    let more = encodeAll ss ++ rest in
     let n : suc (length (encode s) - 1) ≡ length (encode s) = omega (arith, encode-some s) in
-    front-bad at (encode s ++ encodeAll ss) s (length (encode s) - 1) (read-back s (encodeAll ss) (and-l (isScalar s) (allScalars ss) e))
-    ∙ rw (n, drop-append-seam (encode s) (encodeAll ss)) (valid-from (at + length (encode s)) ss (and-r (isScalar s) (allScalars ss) e))
+    let m : at + length (encode s) + length (encodeAll ss) ≡ at + length (encode s ++ encodeAll ss) = omega (arith, length-append (encode s) (encodeAll ss)) in
+    ap (badFrom 0 at) (append-assoc (encode s) (encodeAll ss) rest)
+    ∙ front-bad at (encode s ++ more) s (length (encode s) - 1) (read-back s more (and-l (isScalar s) (allScalars ss) e))
+    ∙ rw (n, drop-append-seam (encode s) more) (encoded-passed (at + length (encode s)) ss rest (and-r (isScalar s) (allScalars ss) e))
+    ∙ ap (λ (k : ℕ). badFrom 0 k rest) m
 
 pub encoded-valid : (ss : List ℕ) → allScalars ss ≡ true → firstBad (encodeAll ss) ≡ none
-unfolding firstBad
-encoded-valid ss e = valid-from 0 ss e
+unfolding firstBad badFrom
+encoded-valid ss e = ap (badFrom 0 0) (sym (append-nil (encodeAll ss))) ∙ encoded-passed 0 ss [] e

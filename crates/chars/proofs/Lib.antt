@@ -9,7 +9,9 @@ mod Blocks
 pub mod Encoded
 pub mod Whole
 pub mod Rfc
+pub mod Breaks
 pub mod Verdicts
 pub mod Halving
+pub mod Rule
 pub mod Spelled
 mod Examples

@@ -2,6 +2,7 @@
 -- step-end, step-ascii, step-bad, step-char   the step, from what the code finds at the offset
 -- front-fits                                  a character lies within the text
 -- front-chars, front-bad                      reading goes on after it
+-- bad-here, end-here                          where no character starts, or nothing is left
 -- Stepped, stepped                            all that a step to a character tells
 -- stepped-bad, stepped-end, stepped-none      what a step to none tells; checked-all the same past the end
 -- sized-on, sized-bad                         what a size tells of the first bad byte
@@ -123,7 +124,7 @@ unfolding badFrom
 front-bad at [] s n e = refl
 front-bad at (b ∷ l) s n e = let p : at + 1 + n ≡ at + suc n = omega arith in rw (e, bad-skip n (at + 1) l, p)
 
-bad-here : (at : ℕ) (l : List ℕ) → front l ≡ bad → badFrom 0 at l ≡ some at
+pub bad-here : (at : ℕ) (l : List ℕ) → front l ≡ bad → badFrom 0 at l ≡ some at
 unfolding badFrom
 bad-here at [] e = unfold front in let z : _≡_ {A = ℕ} 0 1 = cc in absurd (omega arith)
 bad-here at (b ∷ l) e = rw e
@@ -166,7 +167,7 @@ stepped-bad t at = unfold stepAt in go (front (drop at t)) refl
     go bad p q = bad-here at (drop at t) p
     go end p q = let z : _≡_ {A = ℕ} 0 1 = cc in absurd (omega arith)
 
-end-here : (at : ℕ) (l : List ℕ) → front l ≡ end → badFrom 0 at l ≡ none
+pub end-here : (at : ℕ) (l : List ℕ) → front l ≡ end → badFrom 0 at l ≡ none
 unfolding badFrom
 end-here at [] e = refl
 end-here at (b ∷ l) e = rw e

@@ -151,14 +151,14 @@ unfolding badFrom charsFrom encodeAll
 whole-from zero at [] e = refl
 whole-from (suc k) at [] e = refl
 whole-from (suc k) at (b ∷ l) e = whole-from k (at + 1) l e
-whole-from zero at (b ∷ l) e = go (front (b ∷ l)) refl (λ n q. whole-from n (at + 1) l q) e
+whole-from zero at (b ∷ l) e = go (front (b ∷ l)) _ refl (λ n q. whole-from n (at + 1) l q) e
   where
-    go : (f : Front) → front (b ∷ l) ≡ f → ((n : ℕ) → badFrom n (at + 1) l ≡ none → encodeAll (charsFrom n l) ≡ drop n l)
-        → onFront f (λ s n. badFrom n (at + 1) l) (some at) none ≡ none
+    go : (f : Front) (x : ℕ) → front (b ∷ l) ≡ f → ((n : ℕ) → badFrom n (at + 1) l ≡ none → encodeAll (charsFrom n l) ≡ drop n l)
+        → onFront f (λ s n. badFrom n (at + 1) l) (some x) none ≡ none
         → encodeAll (onFront f (λ s n. s ∷ charsFrom n l) [] []) ≡ b ∷ l
-    go (char s n) p ih q = ap (λ (y : List ℕ). encode s ++ y) (ih n q) ∙ sym (written (b ∷ l) s n p)
-    go bad p ih q = clash (cc)
-    go end p ih q = absurd (front-some b l p)
+    go (char s n) x p ih q = ap (λ (y : List ℕ). encode s ++ y) (ih n q) ∙ sym (written (b ∷ l) s n p)
+    go bad x p ih q = clash (cc)
+    go end x p ih q = absurd (front-some b l p)
 
 -- a text with no bad byte is the encoding of its characters
 pub whole : (text : List ℕ) → firstBad text ≡ none → encodeAll (chars text) ≡ text

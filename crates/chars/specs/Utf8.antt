@@ -1,10 +1,12 @@
 -- UTF-8, RFC 3629, on a list of bytes.
 -- Assumes nothing.
-use Prim.Native.Nat.{ℕ, zero, suc, _+_, _-_, _*_, _/_, _%_}
+use mathlib.Core.Path.{_≡_}
+use Prim.Native.Nat.{ℕ, zero, suc, _+_, _-_, _*_, _/_, _%_, _<_}
 use mathlib.Core.Bool.{Bool, true, cond, _&&_, _||_}
 use mathlib.Core.List.{List, [], _∷_, _++_}
 use mathlib.Core.Option.{Option, none, some}
 use lib.Dec.{leb, ltb}
+use lib.ListN.{length, take, drop}
 
 -- what stands at the front of a list of bytes: a character, as its scalar value and the number of bytes that follow its first
 -- one; a byte at which no character starts; or nothing
@@ -91,3 +93,12 @@ encodeAll (s ∷ rest) = encode s ++ encodeAll rest
 unfoldable pub allScalars : List ℕ → Bool
 allScalars [] = true
 allScalars (s ∷ rest) = isScalar s && allScalars rest
+
+-- the first bad sequence starts at `at`, in RFC 3629's words: the bytes before it are the encoding of some scalar values, and the bytes
+-- from there on, of which there are some, do not begin with the encoding of any
+pub record BreaksAt (text : List ℕ) (at : ℕ) : Type 0 where
+  pub before : List ℕ
+  pub scalars : allScalars before ≡ true
+  pub encoded : take at text ≡ encodeAll before
+  pub inside : at < length text
+  pub none-starts : (s : ℕ) (rest : List ℕ) → isScalar s ≡ true → drop at text ≡ encode s ++ rest → ⊥

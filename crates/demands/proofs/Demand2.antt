@@ -3,6 +3,8 @@
 -- lex-rules, sanitize-rules, write-rules, string-rules, content-rules   the contract of each public function, as the checker reads it off its
 --                  clauses: the answer and every word of the lent buffers, by the definitions
 -- valid-encodes, encodes-valid   a text is valid exactly when it is the encoding of some scalar values
+-- bad-breaks, breaks-bad, breaks-once   the offset that refusal 2 gives is the one at which the encoding of scalar values breaks off
+-- tables-ruled     the tables of letters and digits meet the rule at each of their pairs
 -- Assumes nothing.
 use contract.Lifetimes.{Lfts}
 use borrow.Fn.Kinds.{Dens, resT, endedOf}
@@ -11,13 +13,17 @@ use denote.Ref.{now}
 use mathlib.Core.Path.{_≡_, sym}
 use mathlib.Core.Bool.{true}
 use mathlib.Core.List.{List}
-use mathlib.Core.Option.{none}
+use mathlib.Core.Option.{none, some}
 use Prim.Native.Nat.{ℕ}
-use Rattle.chars.specs.Utf8.{chars, encodeAll, allScalars, firstBad}
+use Rattle.chars.specs.Utf8.{chars, encodeAll, allScalars, firstBad, BreaksAt}
 use Rattle.chars.proofs.Whole.{whole}
 use Rattle.chars.proofs.Encoded.{encoded-valid}
 use Rattle.chars.proofs.Rfc.{chars-scalars}
-use Rattle.tokens.specs.Content.{content}
+use Rattle.chars.proofs.Breaks as offset
+use Rattle.chars.specs.Pairs.{alphabeticPairs, numericPairs}
+use Rattle.chars.specs.Table.{Ruled}
+use Rattle.chars.proofs.Rule.{alphabetic-ruled, numeric-ruled}
+use Rattle.tokens.specs.Content.{HandsOut}
 use Rattle.lexer.specs.Lexes.{Lexes}
 use Rattle.sanitizer.specs.Promise.{Sanitizes}
 use Rattle.writer.specs.Promise.{Writes}
@@ -55,7 +61,7 @@ string-rules κs a r s p = p
 
 -- `buffer_content(text, start, end)`
 pub content-rules : (κs : Lfts 1) (a : Dens κs content-kinds.ps) (r : resT content-kinds.r κs .Denot) (s : AtExit (endedOf 1 content-kinds.ps content-kinds.r) κs)
-    → content-reads.Post κs a r s → now r ≡ content (now (a .0)) (a .1 .0 .0) (a .1 .1 .0 .0)
+    → content-reads.Post κs a r s → HandsOut (a .0) (a .1 .0 .0) (a .1 .1 .0 .0) r
 content-rules κs a r s p = p
 
 -- ---- validity, RFC 3629
@@ -64,3 +70,15 @@ valid-encodes text e = (chars text, chars-scalars text, sym (whole text e))
 
 pub encodes-valid : (cs : List ℕ) → allScalars cs ≡ true → firstBad (encodeAll cs) ≡ none
 encodes-valid cs e = encoded-valid cs e
+
+pub bad-breaks : (text : List ℕ) (at : ℕ) → firstBad text ≡ some at → BreaksAt text at
+bad-breaks = offset.bad-breaks
+
+pub breaks-bad : (text : List ℕ) (at : ℕ) → BreaksAt text at → firstBad text ≡ some at
+breaks-bad = offset.breaks-bad
+
+pub breaks-once : (text : List ℕ) (at at′ : ℕ) → BreaksAt text at → BreaksAt text at′ → at ≡ at′
+breaks-once = offset.breaks-once
+
+pub tables-ruled : Ruled alphabeticPairs × Ruled numericPairs
+tables-ruled = (alphabetic-ruled, numeric-ruled)

@@ -6,7 +6,7 @@
 use contract.Lifetimes.{Lfts}
 use borrow.Fn.Kinds.{Dens, resT, endedOf}
 use denote.Triple.Clauses.{AtExit}
-use denote.Ref.{now}
+use denote.Ref.{now, ptr}
 use mathlib.Core.Path.{_≡_, sym, _∙_}
 use Rattle.lexer.proofs.Unique.{lexes-one}
 use Rattle.sanitizer.proofs.Unique.{unique}
@@ -43,8 +43,8 @@ pub string-once :
     → string-reads.Post κs a r₁ s₁ → string-reads.Post κs a r₂ s₂ → (r₁ ≡ r₂) × (now (s₁ .1 .0) ≡ now (s₂ .1 .0)) × (now (s₁ .1 .1 .0) ≡ now (s₂ .1 .1 .0))
 string-once κs a r₁ r₂ s₁ s₂ p q = strings-one p q
 
--- it lends nothing to write in: the part that is handed out is one
+-- it lends nothing to write in: the part that is handed out is one, by its bytes and by where it points
 pub content-once :
     (κs : Lfts 1) (a : Dens κs content-kinds.ps) (r₁ r₂ : resT content-kinds.r κs .Denot) (s₁ s₂ : AtExit (endedOf 1 content-kinds.ps content-kinds.r) κs)
-    → content-reads.Post κs a r₁ s₁ → content-reads.Post κs a r₂ s₂ → now r₁ ≡ now r₂
-content-once κs a r₁ r₂ s₁ s₂ p q = p ∙ sym q
+    → content-reads.Post κs a r₁ s₁ → content-reads.Post κs a r₂ s₂ → (now r₁ ≡ now r₂) × (ptr r₁ ≡ ptr r₂)
+content-once κs a r₁ r₂ s₁ s₂ p q = (p .bytes ∙ sym (q .bytes), p .points ∙ sym (q .points))

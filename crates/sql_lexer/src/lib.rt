@@ -8,8 +8,7 @@ use tokens::refusal::Refusal;
 use writer::Wrote;
 use writer::fill;
 use writer::measure;
-ghost use mathlib.Core.Path.{_≡_};
-ghost use Rattle.tokens.specs.Content.{content};
+ghost use Rattle.tokens.specs.Content.{HandsOut};
 ghost use Rattle.lexer.specs.Lexes.{Lexes};
 ghost use Rattle.sanitizer.specs.Promise.{Sanitizes};
 ghost use Rattle.writer.specs.Promise.{Writes};
@@ -29,9 +28,9 @@ pub enum Shaped {
     Refused(Refusal),
 }
 
-// The text of a token: the part of the statement between two offsets, empty where they are not within it.
+// The text of a token: the part of the statement itself between two offsets, empty where they are not within it.
 pub fn buffer_content(text: &[u8], start: Offset, end: Offset) -> &[u8]
-    ensures { λ r. ⌜ now r ≡ content (now (text .entry)) (start .0) (end .0) ⌝ }
+    ensures { λ r. ⌜ HandsOut (text .entry) (start .0) (end .0) r ⌝ }
 {
     tokens::content::buffer_content(text, start, end)
 }

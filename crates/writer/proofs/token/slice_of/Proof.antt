@@ -13,7 +13,7 @@ buffer-content-requires : tie.Need-buffer-content-requires
 buffer-content-requires c κs = search needs
 
 returns : tie.Need-returns
-returns c = rw (← c .before .wide2 .ensures, ← c .before .before .wide .ensures) (c .buffer-content .ensures)
+returns c = rw (← c .before .wide2 .ensures, ← c .before .before .wide .ensures) (c .buffer-content .ensures .bytes)
 
 pub slice-of-spec : {M : Type 1} → statement M
 slice-of-spec = tie.close (tie.spec wide-requires wide-requires-2 buffer-content-requires returns)
