@@ -16,7 +16,7 @@ use tokens::kind;
 use tokens::slot::Slot;
 use tokens::slot::bare;
 use words::guess::Sort;
-use words::known::LETTERS;
+use words::laid::LETTERS;
 use words::known::known_kind;
 use words::known::zero_kind;
 ghost use mathlib.Core.Path.{_≡_};
