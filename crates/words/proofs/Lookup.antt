@@ -19,11 +19,11 @@ use lib.Seq.{drop-cons, getD-take, getD-drop}
 use borrow.Author.Tests.{eq-eqb, eqb-true, ne-eqb, leb-true}
 use Rattle.chars.proofs.Bytes.{and-l, and-r}
 use Rattle.tokens.specs.Kinds as kind
-use Rattle.tokens.specs.Texts.{Row, textOf, texts}
+use Rattle.tokens.specs.Texts.{Row}
 use Rattle.words.specs.declared.guess.Sort.{Sort}
 use Rattle.words.specs.declared.guess.Sort.the-variants.{Words, Runs, Zeros}
 use Rattle.words.specs.declared.guess.Guess.{Guess}
-use Rattle.words.specs.Known.{lower, equal, find, words, runs, zeros, rowsOf, knownKind, laidOut, letters, keyOf, guessIn, firstLetter, guessOf}
+use Rattle.words.specs.Known.{lower, equal, find, words, runs, zeros, known, rowsOf, knownKind, laidOut, letters, keyOf, guessIn, firstLetter, guessOf}
 use Rattle.chars.proofs.Scalars.{clash}
 
 -- ---- the comparison
@@ -153,12 +153,12 @@ too-long (r ∷ rs) w e h = go (equal w (r .text)) refl (too-long rs w (and-r (l
 -- ---- the three tables
 module _ (w : List ℕ) where
   pub lookup-is : (sort : Sort) → find (rowsOf sort) w ≡ confirmed w (guessOf sort (keyOf w))
-  lookup-is Words = unfold guessOf rowsOf in search-is words 0 w (unfold words runs zeros letters textOf texts in refl) (unfold words textOf texts in refl)
-  lookup-is Runs = unfold guessOf rowsOf in search-is runs _ w (unfold words runs zeros letters textOf texts in refl) (unfold runs in refl)
-  lookup-is Zeros = unfold guessOf rowsOf in search-is zeros _ w (unfold words runs zeros letters textOf texts in refl) (unfold zeros in refl)
+  lookup-is Words = unfold guessOf rowsOf in search-is words 0 w (unfold words runs zeros known letters in refl) (unfold words in refl)
+  lookup-is Runs = unfold guessOf rowsOf in search-is runs _ w (unfold words runs zeros known letters in refl) (unfold runs in refl)
+  lookup-is Zeros = unfold guessOf rowsOf in search-is zeros _ w (unfold words runs zeros known letters in refl) (unfold zeros in refl)
 
   pub lookup-long : (sort : Sort) → 9 < length w → find (rowsOf sort) w ≡ kind.None
-  lookup-long Words h = unfold rowsOf in too-long words w (unfold words textOf texts in refl) h
+  lookup-long Words h = unfold rowsOf in too-long words w (unfold words in refl) h
   lookup-long Runs h = unfold rowsOf in too-long runs w (unfold runs in refl) h
   lookup-long Zeros h = unfold rowsOf in too-long zeros w (unfold zeros in refl) h
 
@@ -173,14 +173,10 @@ guess-in (r ∷ rs) i v = go (eqb v (keyOf (r .text))) (guess-in rs (i + length 
     go false h = omega (arith, length-append (r .text) (laidOut rs))
 
 pub guess-row : (sort : Sort) (v : ℕ) → guessOf sort v .0 + guessOf sort v .1 ≤ length letters
-unfolding guessOf rowsOf letters words runs zeros textOf texts
+unfolding guessOf rowsOf letters known words runs zeros
 guess-row Words v = omega (arith, guess-in words 0 v)
 guess-row Runs v = omega (arith, guess-in runs (firstLetter Runs) v)
 guess-row Zeros v = omega (arith, guess-in zeros (firstLetter Zeros) v)
-
-pub letters-long : length letters ≡ 195
-unfolding letters words runs zeros textOf texts
-letters-long = refl
 
 -- ---- the beginnings of numbers
 lower-not : (b : ℕ) → (b ≡ code "0" → ⊥) → lower b ≡ code "0" → ⊥

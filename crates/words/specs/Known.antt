@@ -4,12 +4,13 @@ use Prim.Native.Nat.{ℕ, _+_, _*_}
 use mathlib.Core.Bool.{Bool, true, false, cond, _&&_}
 use mathlib.Core.List.{List, [], _∷_, _++_, map}
 use lib.Dec.{eqb, leb}
-use lib.ListN.{length, getD}
+use lib.ListN.{length, getD, take, replicate}
 use Rattle.tokens.specs.Kinds as kind
-use Rattle.tokens.specs.Texts.{Row, row, textOf}
+use Rattle.tokens.specs.Texts.{Row, row}
 use Rattle.words.specs.declared.guess.Sort.{Sort}
 use Rattle.words.specs.declared.guess.Sort.the-variants.{Words, Runs, Zeros}
 use Rattle.words.specs.declared.guess.Guess.{Guess}
+use Rattle.words.specs.declared.table.Known.{Known}
 
 -- an ASCII capital in lower case
 abbrev pub lower : ℕ → ℕ
@@ -27,17 +28,47 @@ abbrev pub find : List Row → List ℕ → ℕ
 find [] text = kind.None
 find (r ∷ rs) text = cond (equal text (r .text)) (r .kind) (find rs text)
 
--- rule 9: the kinds that words have
-abbrev pub wordKinds : List ℕ
-wordKinds =
-    kind.In ∷ kind.Not ∷ kind.Like ∷ kind.Ilike ∷ kind.Rlike ∷ kind.Glob ∷ kind.Match ∷ kind.Regexp ∷ kind.Then ∷ kind.Else
-    ∷ kind.Select ∷ kind.From ∷ kind.Where ∷ kind.And ∷ kind.Or ∷ kind.Update ∷ kind.Set ∷ kind.Insert ∷ kind.Into
-    ∷ kind.Values ∷ kind.Inner ∷ kind.Join ∷ kind.On ∷ kind.Limit ∷ kind.Offset ∷ kind.Between ∷ kind.Array
-    ∷ kind.Binary ∷ kind.Date ∷ kind.Time ∷ kind.Timestamp ∷ kind.X ∷ kind.B ∷ kind.N ∷ kind.Null ∷ kind.True ∷ kind.False ∷ []
-
--- rule 9: each with its text in lower case
+-- rule 9: the words that are known
 unfoldable pub words : List Row
-words = map (λ (k : ℕ). record { kind = k; text = map lower (textOf k) }) wordKinds
+words =
+    row kind.In "in"
+    ∷ row kind.Not "not"
+    ∷ row kind.Like "like"
+    ∷ row kind.Ilike "ilike"
+    ∷ row kind.Rlike "rlike"
+    ∷ row kind.Glob "glob"
+    ∷ row kind.Match "match"
+    ∷ row kind.Regexp "regexp"
+    ∷ row kind.Then "then"
+    ∷ row kind.Else "else"
+    ∷ row kind.Select "select"
+    ∷ row kind.From "from"
+    ∷ row kind.Where "where"
+    ∷ row kind.And "and"
+    ∷ row kind.Or "or"
+    ∷ row kind.Update "update"
+    ∷ row kind.Set "set"
+    ∷ row kind.Insert "insert"
+    ∷ row kind.Into "into"
+    ∷ row kind.Values "values"
+    ∷ row kind.Inner "inner"
+    ∷ row kind.Join "join"
+    ∷ row kind.On "on"
+    ∷ row kind.Limit "limit"
+    ∷ row kind.Offset "offset"
+    ∷ row kind.Between "between"
+    ∷ row kind.Array "array"
+    ∷ row kind.Binary "binary"
+    ∷ row kind.Date "date"
+    ∷ row kind.Time "time"
+    ∷ row kind.Timestamp "timestamp"
+    ∷ row kind.X "x"
+    ∷ row kind.B "b"
+    ∷ row kind.N "n"
+    ∷ row kind.Null "null"
+    ∷ row kind.True "true"
+    ∷ row kind.False "false"
+    ∷ []
 
 -- rule 7: the runs that are recognised
 unfoldable pub runs : List Row
@@ -75,15 +106,26 @@ rowsOf Zeros = zeros
 unfoldable pub knownKind : Sort → List ℕ → ℕ
 knownKind sort text = find (rowsOf sort) (map lower text)
 
--- ---- how the code keeps the tables
+-- the one table
+unfoldable pub known : List Row
+known = words ++ runs ++ zeros
+
+-- ---- how the code keeps the table
+-- a row with its text padded
+abbrev pub padded : Row → Known
+padded r = record { 0 = take 9 (r .text ++ replicate 9 32); 1 = r .kind }
+
+-- the table as a person writes it
+unfoldable pub knownTexts : List Known
+knownTexts = map padded known
+
 -- the letters of all rows, one after the other
 abbrev pub laidOut : List Row → List ℕ
 laidOut [] = []
 laidOut (r ∷ rs) = r .text ++ laidOut rs
 
--- the words, the runs and the numbers
 unfoldable pub letters : List ℕ
-letters = laidOut (words ++ runs ++ zeros)
+letters = laidOut known
 
 -- the length of a text and its first two letters, as one number
 abbrev pub keyOf : List ℕ → ℕ

@@ -1,7 +1,8 @@
-// The texts that have a kind of their own (rules 7, 9 and 10): one table of fixed byte strings, and the lookup.
-// A guess by the length and the first two letters names the one row that the text can be, and the row's byte string confirms it.
+// The lookup in the table of known texts: a guess by the length and the first two letters names the one row that the text can be, and the row's
+// letters confirm it.
 use crate::guess::Sort;
 use crate::guess::guess_row;
+use crate::laid::LETTERS;
 use chars::offset::Offset;
 use tokens::kind;
 ghost use mathlib.Core.Path.{_≡_};
@@ -10,21 +11,8 @@ ghost use Prim.Native.Nat.{_+_, _-_, _≤_, _<_};
 ghost use lib.ListN.{length, getD, take, drop};
 ghost use Rattle.words.specs.Known.{lower, equal, letters, keyOf, knownKind};
 
-// How many letters the longest row has, and how many all rows have.
+// How many letters the longest row has.
 const LONGEST: usize = 9;
-
-pub const LETTERS: usize = 195;
-
-// A row for each known text, one after the other: the words, the runs, the beginnings of numbers.
-const TABLE: [u8; LETTERS] =
-    *b"innotlikeilikerlikeglobmatchregexpthenelseselectfromwhereandorupdatesetinsertintovaluesinnerjoinonlimitoffsetbetweenarraybinarydatetimetimestampxbnnulltruefalse<=>>=<==>=<<>!====><<<>>&|#>#>>0x0b";
-
-// The table, for the public call to lend: a constant is laid out anew wherever a function names it.
-pub fn letter_table() -> [u8; LETTERS]
-    ensures { λ r. ⌜ r ≡ letters ⌝ }
-{
-    TABLE
-}
 
 fn lower(b: u8) -> u8
     ensures { λ r. ⌜ r ≡ lower b ⌝ }
