@@ -3,11 +3,9 @@
 -- every-case    each text of the table has that kind
 -- Assumes nothing.
 use mathlib.Core.Path.{_≡_, refl}
-use mathlib.Core.Bool.{Bool, true, _&&_}
 use mathlib.Core.List.{List, [], _∷_, _++_, map}
 use Prim.Native.Nat.{ℕ}
 use Prim.Native.String.{String}
-use lib.Dec.{eqb}
 use Rattle.tokens.specs.Texts.{ascii}
 use Rattle.words.specs.declared.guess.Sort.{Sort}
 use Rattle.words.specs.declared.guess.Sort.the-variants.{Words, Runs, Zeros}
@@ -31,10 +29,6 @@ a-word s k = case Words (ascii s) k
 
 abbrev a-run : String → ℕ → Case
 a-run s k = case Runs (ascii s) k
-
-abbrev all : List Case → Bool
-all [] = true
-all (c ∷ cs) = eqb (knownKind (c .sort) (c .text)) (c .kind) && all cs
 
 cases : List Case
 cases =
@@ -125,6 +119,6 @@ cases =
     ∷ case Zeros (ascii "1x") 0
     ∷ []
 
-every-case : all cases ≡ true
+every-case : map (λ (c : Case). knownKind (c .sort) (c .text)) cases ≡ map (λ (c : Case). c .kind) cases
 unfolding cases knownKind rowsOf words runs zeros
 every-case = refl
