@@ -1,3 +1,4 @@
 pub mod Examples
+pub mod Long
 pub mod Lookup
 pub mod Written

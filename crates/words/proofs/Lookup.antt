@@ -178,10 +178,6 @@ guess-row Words v = omega (arith, guess-in words 0 v)
 guess-row Runs v = omega (arith, guess-in runs (firstLetter Runs) v)
 guess-row Zeros v = omega (arith, guess-in zeros (firstLetter Zeros) v)
 
-pub letters-long : length letters ≡ 195
-unfolding letters known words runs zeros
-letters-long = refl
-
 -- ---- the beginnings of numbers
 lower-not : (b : ℕ) → (b ≡ code "0" → ⊥) → lower b ≡ code "0" → ⊥
 lower-not b n = go (leb 0x41 b && leb b 0x5A) refl

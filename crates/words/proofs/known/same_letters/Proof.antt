@@ -11,7 +11,8 @@ use lib.ListN.{length, getD, take, drop, length-take, length-drop}
 use lib.Seq.{getD-take, getD-drop}
 use denote.Ref.{now}
 use Rattle.words.specs.Known.{lower, equal, letters}
-use Rattle.words.proofs.Lookup.{part-length, getD-part, equal-step, equal-done, letters-long}
+use Rattle.words.proofs.Lookup.{part-length, getD-part, equal-step, equal-done}
+use Rattle.words.proofs.Long.{letters-long}
 use Rattle.words.proofs.known.same_letters.Statement.{statement}
 use Rattle.words.proofs.known.same_letters.Tie as tie
 
