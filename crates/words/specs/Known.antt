@@ -94,19 +94,22 @@ runs =
 
 -- rule 10: the numbers that are an indicator
 unfoldable pub zeros : List Row
-zeros = row kind.ZeroX "0x" ∷ row kind.ZeroB "0b" ∷ []
+zeros =
+    row kind.ZeroX "0x"
+    ∷ row kind.ZeroB "0b"
+    ∷ []
 
--- the three tables by name
+-- the three parts by name
 unfoldable pub rowsOf : Sort → List Row
 rowsOf Words = words
 rowsOf Runs = runs
 rowsOf Zeros = zeros
 
--- the kind of a text by a table, ASCII case ignored (no run has a letter)
+-- the kind of a text by a part, ASCII case ignored (no run has a letter)
 unfoldable pub knownKind : Sort → List ℕ → ℕ
 knownKind sort text = find (rowsOf sort) (map lower text)
 
--- the one table
+-- all rows, in the order in which the code has them
 unfoldable pub known : List Row
 known = words ++ runs ++ zeros
 
@@ -115,7 +118,7 @@ known = words ++ runs ++ zeros
 abbrev pub padded : Row → Known
 padded r = record { 0 = take 9 (r .text ++ replicate 9 32); 1 = r .kind }
 
--- the table as a person writes it
+-- as src/table.rt has it
 unfoldable pub knownTexts : List Known
 knownTexts = map padded known
 
@@ -137,12 +140,12 @@ guessIn i [] key = record { 0 = 0; 1 = 0; 2 = kind.None }
 guessIn i (r ∷ rs) key =
     cond (eqb key (keyOf (r .text))) (record { 0 = i; 1 = length (r .text); 2 = r .kind }) (guessIn (i + length (r .text)) rs key)
 
--- the tables stand in the order of their names
+-- the parts stand in the order of their names
 abbrev pub firstLetter : Sort → ℕ
 firstLetter Words = 0
 firstLetter Runs = length (laidOut words)
 firstLetter Zeros = length (laidOut words) + length (laidOut runs)
 
--- the row of a table whose text has the key
+-- the row of a part whose text has the key
 unfoldable pub guessOf : Sort → ℕ → Guess
 guessOf sort key = guessIn (firstLetter sort) (rowsOf sort) key

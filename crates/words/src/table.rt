@@ -1,5 +1,5 @@
-// The table of known texts: each fixed byte string beside its kind. tools/guesses prints from it what the lookup runs on, laid.rt; both are proved to be
-// the definition's table (specs/Known.antt). A row is added here and there, and printed anew.
+// The table of known texts: each fixed byte string beside its kind. Nothing reads it at run time: tools/guesses prints from it what the lookup runs on,
+// laid.rt, and both are proved to be the definition's table (specs/Known.antt). A new row goes into both tables, and laid.rt is printed anew.
 use tokens::kind;
 ghost use mathlib.Core.Path.{_≡_};
 ghost use Rattle.words.specs.Known.{knownTexts};
@@ -69,7 +69,7 @@ pub const KNOWN: [Known; 56] = [
     Known(*b"0b       ", kind::ZERO_B),
 ];
 
-// The table is the definition's.
+// The table, which the proof holds to the definition's.
 pub fn known_texts() -> [Known; 56]
     ensures { λ r. ⌜ r ≡ knownTexts ⌝ }
 {
