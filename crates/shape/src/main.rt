@@ -1,17 +1,17 @@
 // The program of document 01: lines of hexadecimal on standard input, one frame a line on standard output.
-// A line's frame is proved in crate frames; here lines are cut from the input, and frames collected until a page is written.
+// A line's frame is proved in crate frames; here lines are cut from the input, and frames collected until a page is written (page.rt).
+use crate::page::flush;
+use crate::page::make_room;
 use frames::print_frame;
 ghost use mathlib.Core.Path.{_≡_};
-ghost use mathlib.Core.Bool.{true};
 ghost use mathlib.Core.List.{[]};
 ghost use Prim.Native.Nat.{suc, _≤_, _+_};
 ghost use lib.ListN.{length, take};
 ghost use Rattle.frames.specs.Frames.{lineLimit, longest, Prints};
 ghost use Rattle.shape.specs.Fits.{Fits, Still, pageRoom, whole, Keeps, Takes, Ends};
-ghost use Rattle.shape.specs.Passes.{wrote, Flushes, MakesRoom, Passes, Took, Reads, Closes, Runs};
+ghost use Rattle.shape.specs.Passes.{Passes, Took, Reads, Closes, Runs};
 
-// The most bytes of a page that leave room for the longest frame, 32,779 bytes.
-const FULL: usize = 65536 - 32779;
+mod page;
 
 // How much is held of the line and of the page; how many bytes the writes took, as a counter of 64 bits; whether one took fewer than it was to;
 // and whether the input has ended, or a read failed.
@@ -22,68 +22,6 @@ struct Held {
     lost: bool,
     ended: bool,
     failed: bool,
-}
-
-// One write of the bytes from `from` up to `to`: how many of them it took. None where it failed.
-fn write_some(page: &[u8], from: usize, to: usize) -> usize
-    requires { ⌜ (from ≤ to) × (to ≤ length (now page)) ⌝ }
-    ensures { λ r. ⌜ from + r ≤ to ⌝ }
-{
-    let part = &page[from..to];
-    io::count(libc::write(1, part), part)
-}
-
-// Writes the first `count` bytes: how many of them the writes took, which is all unless one failed. Where one has failed before, none is made.
-fn write_out(page: &[u8], count: usize, lost: bool) -> usize
-    requires { ⌜ count ≤ length (now page) ⌝ }
-    ensures { λ r. ⌜ (r ≤ count) × (lost ≡ true → r ≡ 0) ⌝ }
-{
-    if lost {
-        return 0;
-    }
-    let mut done = 0;
-    while done < count {
-        let took = write_some(page, done, count);
-        if took == 0 {
-            return done;
-        }
-        done += took;
-    }
-    done
-}
-
-// What is held once the writes took so many bytes of the page.
-fn after_write(held: Held, took: usize) -> Held
-    ensures { λ r. ⌜ r ≡ wrote held took ⌝ }
-{
-    Held {
-        line: held.line,
-        page: 0,
-        sent: std::num::wrapping_add_usize(held.sent, took),
-        lost: held.lost || took < held.page,
-        ended: held.ended,
-        failed: held.failed,
-    }
-}
-
-// Writes the page.
-fn flush(held: Held, page: &[u8]) -> Held
-    requires { ⌜ held .page ≤ length (now page) ⌝ }
-    ensures { λ r. ⌜ Flushes held r ⌝ }
-{
-    let took = write_out(page, held.page, held.lost);
-    after_write(held, took)
-}
-
-// Writes the page where the longest frame may not fit behind what it has.
-fn make_room(held: Held, page: &[u8]) -> Held
-    requires { ⌜ (held .page ≤ pageRoom) × (pageRoom ≤ length (now page)) ⌝ }
-    ensures { λ r. ⌜ MakesRoom held r ⌝ }
-{
-    if held.page <= FULL {
-        return held;
-    }
-    flush(held, page)
 }
 
 // Prints the frame of the line that is held.

@@ -1,11 +1,11 @@
--- `shape::write_out` meets its contract. The invariant: the writes took no more than there is. Assumes nothing.
+-- `shape::page::write_out` meets its contract. The invariant: the writes took no more than there is. Assumes nothing.
 use mathlib.Core.Path.{_≡_, sym, _∙_}
 use mathlib.Core.Bool.{false, true≢false}
 use Prim.Native.Nat.{_-_, _≤_}
 use native.Mathlib.Omega.{arith}
 use borrow.Author.Needs.{needs}
-use Rattle.shape.proofs.write_out.Statement.{statement}
-use Rattle.shape.proofs.write_out.Tie as tie
+use Rattle.shape.proofs.page.write_out.Statement.{statement}
+use Rattle.shape.proofs.page.write_out.Tie as tie
 
 abbrev Inv-loop : tie.InvT-loop
 Inv-loop page count lost done₀ done = (done ≤ count) × (lost ≡ false)

@@ -1,11 +1,11 @@
--- `shape::make_room` meets its contract. Assumes nothing.
+-- `shape::page::make_room` meets its contract. Assumes nothing.
 use mathlib.Core.Path.{refl, ap}
 use mathlib.Core.Logic.{inl, inr}
 use native.Mathlib.Omega.{arith}
 use Rattle.shape.specs.declared.Held.{Held}
 use borrow.Author.Needs.{needs}
-use Rattle.shape.proofs.make_room.Statement.{statement}
-use Rattle.shape.proofs.make_room.Tie as tie
+use Rattle.shape.proofs.page.make_room.Statement.{statement}
+use Rattle.shape.proofs.page.make_room.Tie as tie
 
 returns : tie.Need-returns
 returns c = record { room = omega arith; how = inl refl }

@@ -1,11 +1,11 @@
--- `shape::after_write` meets its contract. Assumes nothing.
+-- `shape::page::after_write` meets its contract. Assumes nothing.
 use mathlib.Core.Path.{sym, ap, _∙_}
 use mathlib.Core.Bool.{Bool, _||_}
 use lib.Dec.{ltb}
 use Rattle.shape.proofs.Passing.{wrote-as}
 use borrow.Author.Needs.{needs}
-use Rattle.shape.proofs.after_write.Statement.{statement}
-use Rattle.shape.proofs.after_write.Tie as tie
+use Rattle.shape.proofs.page.after_write.Statement.{statement}
+use Rattle.shape.proofs.page.after_write.Tie as tie
 
 wrapping-add-usize-requires : tie.Need-wrapping-add-usize-requires
 wrapping-add-usize-requires c κs = search needs
