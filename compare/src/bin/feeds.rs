@@ -14,6 +14,7 @@ use std::os::fd::OwnedFd;
 use std::os::unix::net::{UnixDatagram, UnixStream};
 use std::os::unix::process::ExitStatusExt;
 use std::process::{Child, Command, ExitStatus, Stdio};
+use std::sync::mpsc::channel;
 use std::thread::{self, JoinHandle};
 use std::time::{Duration, Instant};
 
@@ -22,6 +23,12 @@ const UNREAD: &str = "shape: the input could not be read to its end; a line that
 const UNWRITTEN: &str = "shape: the output could not be written; what was written is the beginning of it\n";
 
 const PIECES: [usize; 8] = [1, 2, 3, 5, 7, 4_095, 65_535, 65_536];
+
+// A program that runs, with what it says.
+struct Running {
+    child: Child,
+    said: JoinHandle<Vec<u8>>,
+}
 
 // How a run ended.
 struct Ended {
@@ -46,10 +53,6 @@ fn frames_of(input: &[u8], ended: bool) -> Vec<u8> {
     lines.iter().map(|line| line_frame(line) + "\n").collect::<String>().into_bytes()
 }
 
-fn pause() {
-    thread::sleep(Duration::from_millis(20));
-}
-
 fn collected(mut from: impl Read + Send + 'static) -> JoinHandle<Vec<u8>> {
     thread::spawn(move || {
         let mut all = Vec::new();
@@ -58,17 +61,28 @@ fn collected(mut from: impl Read + Send + 'static) -> JoinHandle<Vec<u8>> {
     })
 }
 
-// Waits for the program's end; one that goes on for longer than any run takes is stopped, and has no good status.
-fn wait(child: &mut Child) -> ExitStatus {
-    let began = Instant::now();
-    loop {
-        if let Some(status) = child.try_wait().unwrap() {
-            return status;
+impl Running {
+    // The program has ended, or goes on for longer than this.
+    fn wait(&mut self, seconds: u64) -> Option<ExitStatus> {
+        let began = Instant::now();
+        while began.elapsed() < Duration::from_secs(seconds) {
+            if let Some(status) = self.child.try_wait().unwrap() {
+                return Some(status);
+            }
+            thread::sleep(Duration::from_millis(1));
         }
-        if Duration::from_secs(30) < began.elapsed() {
-            child.kill().unwrap();
-        }
-        thread::sleep(Duration::from_millis(1));
+        None
+    }
+
+    // Waits for the program's end; one that goes on for longer than any run takes is stopped, and has no good status.
+    fn end(mut self) -> Ended {
+        let out = self.child.stdout.take().map(collected);
+        let status = self.wait(30).unwrap_or_else(|| {
+            self.child.kill().unwrap();
+            self.child.wait().unwrap()
+        });
+        let out = out.map_or(Vec::new(), |out| out.join().unwrap());
+        Ended { status, out, said: String::from_utf8_lossy(&self.said.join().unwrap()).into_owned() }
     }
 }
 
@@ -79,9 +93,11 @@ fn difference(out: &[u8], due: &[u8]) -> String {
 }
 
 impl Feeds {
-    fn start(&self, input: impl Into<Stdio>, output: impl Into<Stdio>) -> Child {
+    fn start(&self, input: impl Into<Stdio>, output: impl Into<Stdio>) -> Running {
         let mut command = Command::new(&self.command[0]);
-        command.args(&self.command[1..]).stdin(input).stdout(output).stderr(Stdio::piped()).spawn().unwrap()
+        let mut child = command.args(&self.command[1..]).stdin(input).stdout(output).stderr(Stdio::piped()).spawn().unwrap();
+        let said = collected(child.stderr.take().unwrap());
+        Running { child, said }
     }
 
     // The program started by a shell that first does what `before` says.
@@ -90,13 +106,6 @@ impl Feeds {
         Feeds { command: [&shell[..], &self.command].concat(), runs: 0, wrong: 0 }
     }
 
-    fn end(&self, mut child: Child) -> Ended {
-        let said = collected(child.stderr.take().unwrap());
-        let out = child.stdout.take().map(collected);
-        let status = wait(&mut child);
-        let out = out.map_or(Vec::new(), |out| out.join().unwrap());
-        Ended { status, out, said: String::from_utf8(said.join().unwrap()).unwrap() }
-    }
 
     fn tell(&mut self, name: &str, fault: Option<String>) {
         self.runs += 1;
@@ -120,9 +129,9 @@ impl Feeds {
         self.tell(name, fault);
     }
 
-    // The output could not be written: a beginning of what is due was printed, less than all, and the program says so and ends.
-    fn cut(&mut self, name: &str, run: Ended, due: &[u8]) {
-        let fault = if !due.starts_with(&run.out) || run.out.len() == due.len() {
+    // The output could not be written: a beginning of what is due was printed, at least so many bytes but not all, and the program says so and ends.
+    fn cut(&mut self, name: &str, run: Ended, due: &[u8], least: usize) {
+        let fault = if !due.starts_with(&run.out) || run.out.len() < least || run.out.len() == due.len() {
             Some(difference(&run.out, due))
         } else if run.said != UNWRITTEN {
             Some(format!("it said {:?}", run.said))
@@ -137,7 +146,7 @@ impl Feeds {
     // The input in pieces of one size after the other: one piece a read, and an empty one as the end of the input.
     fn in_pieces(&mut self, name: &str, input: &[u8], sizes: &[usize]) {
         let (ours, theirs) = UnixDatagram::pair().unwrap();
-        let child = self.start(OwnedFd::from(theirs), Stdio::piped());
+        let program = self.start(OwnedFd::from(theirs), Stdio::piped());
         let whole = input.to_vec();
         let sizes = sizes.to_vec();
         let feeder = thread::spawn(move || {
@@ -150,40 +159,43 @@ impl Feeds {
                 rest = later;
             }
         });
-        let run = self.end(child);
+        let run = program.end();
         feeder.join().unwrap();
         self.all(name, run, &frames_of(input, true), "");
     }
 
     // The input through a pipe, with a pause after each part.
-    fn slowly(&mut self, parts: &[&str]) {
-        let mut child = self.start(Stdio::piped(), Stdio::piped());
-        let mut pipe = child.stdin.take().unwrap();
-        for part in parts {
-            let _ = pipe.write_all(part.as_bytes());
-            pause();
-        }
-        drop(pipe);
-        let run = self.end(child);
-        self.all(&format!("a pipe, {parts:?} with pauses"), run, &frames_of(parts.concat().as_bytes(), true), "");
+    fn slowly(&mut self, name: &str, parts: &[&str]) {
+        let mut program = self.start(Stdio::piped(), Stdio::piped());
+        let mut pipe = program.child.stdin.take().unwrap();
+        let whole = parts.concat().into_bytes();
+        let parts: Vec<Vec<u8>> = parts.iter().map(|part| part.as_bytes().to_vec()).collect();
+        thread::spawn(move || {
+            for part in parts {
+                let _ = pipe.write_all(&part);
+                thread::sleep(Duration::from_millis(20));
+            }
+        });
+        let run = program.end();
+        self.all(&format!("a slow pipe, {name}"), run, &frames_of(&whole, true), "");
     }
 
     // The input through a socket; then a read that fails, since the other side is closed with a byte in it that nobody read.
     fn broken(&mut self, name: &str, input: &[u8]) {
         let (mut ours, mut theirs) = UnixStream::pair().unwrap();
         theirs.write_all(b"x").unwrap();
-        let child = self.start(OwnedFd::from(theirs), Stdio::piped());
+        let program = self.start(OwnedFd::from(theirs), Stdio::piped());
         let whole = input.to_vec();
         let feeder = thread::spawn(move || ours.write_all(&whole));
-        let run = self.end(child);
+        let run = program.end();
         let _ = feeder.join().unwrap();
         self.all(&format!("a read that fails after {name}"), run, &frames_of(input, false), UNREAD);
     }
 
     // The reader takes little at a time; and the program is stopped and continued, by which a write that waits takes only a part.
     fn slow_reader(&mut self, path: &str, due: &[u8]) {
-        let mut child = self.start(File::open(path).unwrap(), Stdio::piped());
-        let mut from = child.stdout.take().unwrap();
+        let mut program = self.start(File::open(path).unwrap(), Stdio::piped());
+        let mut from = program.child.stdout.take().unwrap();
         let reader = thread::spawn(move || {
             let mut all = Vec::new();
             let mut part = [0; 3_001];
@@ -198,12 +210,12 @@ impl Feeds {
                 }
             }
         });
-        let id = child.id().to_string();
+        let id = program.child.id().to_string();
         for signal in ["-STOP", "-CONT"].iter().cycle().take(40) {
             Command::new("kill").args([signal, &id[..]]).stderr(Stdio::null()).status().unwrap();
             thread::sleep(Duration::from_millis(3));
         }
-        let mut run = self.end(child);
+        let mut run = program.end();
         run.out = reader.join().unwrap();
         self.all("a slow reader, and writes that take a part", run, due, "");
     }
@@ -212,42 +224,48 @@ impl Feeds {
     fn closed(&mut self, path: &str, due: &[u8], count: usize, ignored: bool) {
         let name = format!("a pipe closed after {count} bytes, the signal ignored: {ignored}");
         let program = if ignored { self.after("trap '' PIPE") } else { self.after(":") };
-        let mut child = program.start(File::open(path).unwrap(), Stdio::piped());
-        let mut from = child.stdout.take().unwrap();
-        let mut out = vec![0; count];
-        let read = from.read_exact(&mut out);
-        drop(from);
-        let mut run = self.end(child);
+        let mut program = program.start(File::open(path).unwrap(), Stdio::piped());
+        let mut from = program.child.stdout.take().unwrap();
+        let reader = thread::spawn(move || {
+            let mut out = vec![0; count];
+            from.read_exact(&mut out).map(|()| out)
+        });
+        let mut run = program.end();
+        let read = reader.join().unwrap();
+        let Ok(out) = read else {
+            return self.tell(&name, Some("less was printed".to_string()));
+        };
         run.out = out;
-        if let Err(error) = read {
-            self.tell(&name, Some(error.to_string()));
-        } else if ignored {
-            self.cut(&name, run, due);
+        if ignored {
+            self.cut(&name, run, due, count);
         } else {
             let signalled = run.status.signal() == Some(13) && due.starts_with(&run.out);
             self.tell(&name, (!signalled).then(|| format!("it ended with {}; {}", run.status, difference(&run.out, due))));
         }
     }
 
-    // A write that fails once and would not later: the output takes no more until its reader goes on. Nothing comes after the gap.
+    // A write that fails once and would not later: the output takes no more until its reader goes on, which is once the program has ended, or
+    // goes on itself; then comes the rest of the input. Nothing comes after the gap.
     fn full_once(&mut self, input: &[u8]) {
-        let (mut ours, theirs) = UnixStream::pair().unwrap();
+        let (ours, theirs) = UnixStream::pair().unwrap();
         theirs.set_nonblocking(true).unwrap();
-        let mut child = self.start(Stdio::piped(), OwnedFd::from(theirs));
-        let mut pipe = child.stdin.take().unwrap();
-        let (first, second) = input.split_at(input.len() / 2);
-        let _ = pipe.write_all(first);
-        thread::sleep(Duration::from_millis(300));
-        let reader = thread::spawn(move || {
-            let mut all = Vec::new();
-            ours.read_to_end(&mut all).map(|_| all)
+        let mut program = self.start(Stdio::piped(), OwnedFd::from(theirs));
+        let mut pipe = program.child.stdin.take().unwrap();
+        let whole = input.to_vec();
+        let (go_on, told) = channel();
+        thread::spawn(move || {
+            let (first, second) = whole.split_at(whole.len() / 2);
+            let _ = pipe.write_all(first);
+            let _ = told.recv();
+            let _ = pipe.write_all(second);
         });
+        program.wait(3);
+        let reader = collected(ours);
         thread::sleep(Duration::from_millis(100));
-        let _ = pipe.write_all(second);
-        drop(pipe);
-        let mut run = self.end(child);
-        run.out = reader.join().unwrap().unwrap();
-        self.cut("a write that fails once", run, &frames_of(input, true));
+        let _ = go_on.send(());
+        let mut run = program.end();
+        run.out = reader.join().unwrap();
+        self.cut("a write that fails once", run, &frames_of(input, true), 1);
     }
 }
 
@@ -267,19 +285,18 @@ fn main() {
     for input in ["", "\n", "\n\n", "6", "61", "61\n", short, &short[..short.len() - 1], "61203d20\n31"] {
         feeds.in_pieces(&format!("{input:?} byte by byte"), input.as_bytes(), &[1]);
     }
-    feeds.in_pieces("long lines byte by byte", &mixed.as_bytes(), &[1]);
+    feeds.in_pieces("long lines byte by byte", mixed.as_bytes(), &[1]);
     for size in PIECES {
         feeds.in_pieces(&format!("pieces of {size}"), mixed.as_bytes(), &[size]);
     }
     feeds.in_pieces("pieces of all sizes in turn", format!("{long}{mixed}").as_bytes(), &PIECES);
 
-    feeds.slowly(&["61203d20", "3", "1\n"]);
-    feeds.slowly(&["61203d20", "3", "1"]);
-    feeds.slowly(&["6", "1203d2031\n", "\n", "4", "\nff"]);
-    feeds.slowly(&[&mixed[..65_537], &mixed[65_537..]]);
+    feeds.slowly("a line in three parts", &["61203d20", "3", "1\n"]);
+    feeds.slowly("a last line in three parts", &["61203d20", "3", "1"]);
+    feeds.slowly("lines in parts", &["6", "1203d2031\n", "\n", "4", "\nff"]);
+    feeds.slowly("65,537 bytes and the rest", &[&mixed[..65_537], &mixed[65_537..]]);
 
-    let directory = feeds.start(File::open("/").unwrap(), Stdio::piped());
-    let run = feeds.end(directory);
+    let run = feeds.start(File::open("/").unwrap(), Stdio::piped()).end();
     feeds.all("a directory as the input", run, b"", UNREAD);
     for (name, input) in [("nothing", ""), ("half a line", "61203d20"), ("a line", "61203d2031\n"), ("a line and a half", "61203d2031\n61203d20"), ("long lines and a half", &mixed)] {
         feeds.broken(name, input.as_bytes());
@@ -297,19 +314,16 @@ fn main() {
     for input in ["4\n", &long] {
         std::fs::write(format!("{folder}/input"), input).unwrap();
         let full = File::options().write(true).open("/dev/full").unwrap();
-        let child = feeds.start(File::open(format!("{folder}/input")).unwrap(), full);
-        let run = feeds.end(child);
-        feeds.cut("a full device", run, &frames_of(input.as_bytes(), true));
+        let run = feeds.start(File::open(format!("{folder}/input")).unwrap(), full).end();
+        feeds.cut("a full device", run, &frames_of(input.as_bytes(), true), 0);
     }
     // A file that may not grow over a limit: the last write takes a part, and the next one fails.
     for blocks in [1, 77, 1_001] {
         let limited = format!("{folder}/limited");
-        let child = feeds.after(&format!("trap '' XFSZ; ulimit -f {blocks}")).start(File::open(&path).unwrap(), File::create(&limited).unwrap());
-        let mut run = feeds.end(child);
+        let program = feeds.after(&format!("trap '' XFSZ; ulimit -f {blocks}"));
+        let mut run = program.start(File::open(&path).unwrap(), File::create(&limited).unwrap()).end();
         run.out = std::fs::read(&limited).unwrap();
-        let fault = (run.out.len() % 512 != 0 || run.out.is_empty()).then(|| format!("{} bytes written", run.out.len()));
-        feeds.tell("a limit of the file's size", fault);
-        feeds.cut("a limit of the file's size", run, &due);
+        feeds.cut("a limit of the file's size", run, &due, blocks * 512);
     }
 
     if 0 < feeds.wrong {
