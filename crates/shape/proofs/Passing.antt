@@ -3,6 +3,9 @@
 -- flush-passes, room-passes, takes-passes   a page written, room made, a character taken: nothing is lost or doubled
 -- passes-none, passes-then, passes-more     no chunk, one chunk after the other, one character more
 -- closes-page, passes-closes                the last page, and what passed before it
+-- room-keeps      what making room leaves as it was
+-- end-told, failure-told, took-as           a read's answer as the code tests it, and what it gave
+-- Since, since-start, since-read, since-runs   all that was read since the start: the invariant of the loop
 -- Assumes nothing.
 use mathlib.Core.Path.{_≡_, refl, sym, ap, subst, _∙_}
 use mathlib.Core.Logic.{_⊎_, ⊎-elim}

@@ -5,6 +5,7 @@
 -- takes-kept    any other character
 -- ends-line, ends-none   the end of the input, in a line and between two
 -- ends-cut      a read that failed: the line is left out
+-- flip, still-same   a test made the other way round; nothing read or written
 -- Assumes nothing.
 use mathlib.Core.Path.{_≡_, refl, sym, ap, _∙_}
 use mathlib.Core.Bool.{Bool, true, false, not, cond, Bool·not-not}

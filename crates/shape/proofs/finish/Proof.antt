@@ -1,5 +1,5 @@
 -- `shape::finish` meets its contract. Assumes nothing.
-use mathlib.Core.Path.{_≡_, sym, ap, subst, _∙_}
+use mathlib.Core.Path.{_≡_, ap, subst, _∙_}
 use mathlib.Core.List.{[]}
 use mathlib.Core.Bool.{Bool}
 use native.Mathlib.Omega.{arith}
