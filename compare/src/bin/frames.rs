@@ -67,7 +67,7 @@ fn answer(statement: &[u8]) -> String {
 }
 
 // The frame of a line.
-fn line_frame(line: &str) -> String {
+pub fn line_frame(line: &str) -> String {
     if LINE < line.len() {
         return frame(0x18, LINE, b"");
     }

@@ -1,7 +1,7 @@
 -- No second frame meets the promise of a line.
 -- leaves-one, frames-one, prints-one   two ways to leave the buffers, two answers, two pages that meet the promise are the same
 -- frame-unique    the same of the contract of `frame_line`, as the check reads it off the function's clauses
--- print-unique    and of `print_frame`'s: one result, and one content of the page
+-- print-unique    and of `print_frame`'s; both name every lent buffer that is written in
 -- Assumes nothing.
 use contract.Lifetimes.{Lfts}
 use borrow.Fn.Kinds.{Dens, resT, endedOf}
@@ -34,6 +34,12 @@ pub frame-unique : (κs : Lfts 4) (a : Dens κs kinds.ps) (r₁ r₂ : resT kind
     → (r₁ ≡ r₂) × (now (s₁ .1 .0) ≡ now (s₂ .1 .0)) × (now (s₁ .1 .1 .0) ≡ now (s₂ .1 .1 .0)) × (now (s₁ .1 .1 .1 .0) ≡ now (s₂ .1 .1 .1 .0))
 frame-unique κs a r₁ r₂ s₁ s₂ p q = frames-one p q
 
+-- one count, and one content of the text, the slots, the output and the page
 pub print-unique : (κs : Lfts 5) (a : Dens κs print-kinds.ps) (r₁ r₂ : resT print-kinds.r κs .Denot) (s₁ s₂ : AtExit (endedOf 5 print-kinds.ps print-kinds.r) κs)
-    → print-reads.Post κs a r₁ s₁ → print-reads.Post κs a r₂ s₂ → (r₁ ≡ r₂) × (now (s₁ .1 .1 .1 .1 .0) ≡ now (s₂ .1 .1 .1 .1 .0))
-print-unique κs a r₁ r₂ s₁ s₂ p q = prints-one (p .0) (q .0)
+    → print-reads.Post κs a r₁ s₁ → print-reads.Post κs a r₂ s₂
+    → (r₁ ≡ r₂) × (now (s₁ .1 .0) ≡ now (s₂ .1 .0)) × (now (s₁ .1 .1 .0) ≡ now (s₂ .1 .1 .0)) × (now (s₁ .1 .1 .1 .0) ≡ now (s₂ .1 .1 .1 .0))
+    × (now (s₁ .1 .1 .1 .1 .0) ≡ now (s₂ .1 .1 .1 .1 .0))
+print-unique κs a r₁ r₂ s₁ s₂ p q =
+    let l = leaves-one (p .1) (q .1) in
+    let f = prints-one (p .0) (q .0) in
+    (f .0, l .0, l .1, l .2, f .1)

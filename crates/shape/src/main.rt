@@ -1,47 +1,27 @@
 // The program of document 01: lines of hexadecimal on standard input, one frame a line on standard output.
-// A line's frame is proved in crate frames; here lines are cut from the input, and frames collected until a page is written.
+// A line's frame is proved in crate frames; here lines are cut from the input, and frames collected until a page is written (page.rt).
+use crate::page::flush;
+use crate::page::make_room;
 use frames::print_frame;
 ghost use mathlib.Core.Path.{_≡_};
+ghost use mathlib.Core.List.{[]};
 ghost use Prim.Native.Nat.{suc, _≤_, _+_};
 ghost use lib.ListN.{length, take};
 ghost use Rattle.frames.specs.Frames.{lineLimit, longest, Prints};
-ghost use Rattle.shape.specs.Fits.{Fits, pageRoom, Keeps, Takes, Ends};
+ghost use Rattle.shape.specs.Fits.{Fits, Still, pageRoom, whole, Keeps, Takes, Ends};
+ghost use Rattle.shape.specs.Passes.{Passes, Took, Reads, Closes, Runs};
 
-// The most bytes of a page that leave room for the longest frame, 32,779 bytes.
-const FULL: usize = 65536 - 32779;
+mod page;
 
-// How much is held of the line and of the page; whether a write failed; and whether the input has ended.
+// How much is held of the line and of the page; how many bytes the writes took, as a counter of 64 bits; whether one took fewer than it was to;
+// and whether the input has ended, or a read failed.
 struct Held {
     line: usize,
     page: usize,
+    sent: usize,
     lost: bool,
     ended: bool,
-}
-
-// Writes the first `count` bytes, unless a write has failed before: what was written is then a beginning of what it should be, with no gap.
-fn write_out(page: &[u8], count: usize, lost: bool) -> bool
-    requires { ⌜ count ≤ length (now page) ⌝ }
-{
-    if lost {
-        return true;
-    }
-    !io::write_all(1, &page[..count])
-}
-
-// Writes the page where the longest frame may not fit behind what it has.
-fn make_room(held: Held, page: &[u8]) -> Held
-    requires { ⌜ (held .page ≤ pageRoom) × (pageRoom ≤ length (now page)) ⌝ }
-    ensures { λ r. ⌜ (r .line ≡ held .line) × (r .page + longest ≤ pageRoom) ⌝ }
-{
-    if held.page <= FULL {
-        return held;
-    }
-    Held {
-        line: held.line,
-        page: 0,
-        lost: write_out(page, held.page, held.lost),
-        ended: held.ended,
-    }
+    failed: bool,
 }
 
 // Prints the frame of the line that is held.
@@ -54,14 +34,16 @@ fn end_line(
     page: &mut [u8; 65536],
 ) -> Held
     requires { ⌜ (held .line ≤ length (now line)) × (held .page + longest ≤ pageRoom) ⌝ }
-    ensures { λ r. ⌜ (r .line ≡ 0) × Prints (take (held .line) (now (line .entry))) (now (page .entry)) (held .page) (r .page) (now (page .exit)) ⌝ }
+    ensures { λ r. ⌜ (r .line ≡ 0) × Still held r × Prints (take (held .line) (now (line .entry))) (now (page .entry)) (held .page) (r .page) (now (page .exit)) ⌝ }
 {
     let count = held.line;
     Held {
         line: 0,
         page: print_frame(&line[..count], text, slots, out, page, held.page),
+        sent: held.sent,
         lost: held.lost,
         ended: held.ended,
+        failed: held.failed,
     }
 }
 
@@ -97,8 +79,10 @@ fn step(
     Held {
         line: keep(line, held.line, c),
         page: held.page,
+        sent: held.sent,
         lost: held.lost,
         ended: held.ended,
+        failed: held.failed,
     }
 }
 
@@ -113,7 +97,7 @@ fn feed(
     page: &mut [u8; 65536],
 ) -> Held
     requires { ⌜ Fits start (now line) ⌝ }
-    ensures { λ r. ⌜ Fits r (now (line .exit)) ⌝ }
+    ensures { λ r. ⌜ Fits r (now (line .exit)) × Passes (now (chunk .entry)) start (now (line .entry)) (now (page .entry)) r (now (line .exit)) (now (page .exit)) ⌝ }
 {
     let mut held = start;
     let mut i = 0;
@@ -125,7 +109,33 @@ fn feed(
     held
 }
 
-// Reads a chunk and takes it. A read that fails counts as the end of the input: what came before it is framed.
+// Takes what a read gave: its answer, and the buffer that it read into.
+fn take_read(
+    got: isize,
+    buf: &[u8],
+    held: Held,
+    line: &mut [u8],
+    text: &mut [u8; 8192],
+    slots: &mut [u32; 12288],
+    out: &mut [u8; 16384],
+    page: &mut [u8; 65536],
+) -> Held
+    requires { ⌜ Fits held (now line) ⌝ }
+    ensures { λ r. ⌜ Took got (now (buf .entry)) held (now (line .entry)) (now (page .entry)) r (now (line .exit)) (now (page .exit)) ⌝ }
+{
+    let n = io::count(got, buf);
+    let fed = feed(&buf[..n], held, line, text, slots, out, page);
+    Held {
+        line: fed.line,
+        page: fed.page,
+        sent: fed.sent,
+        lost: fed.lost,
+        ended: got == 0,
+        failed: got < 0,
+    }
+}
+
+// Reads a chunk and takes it.
 fn turn(
     held: Held,
     line: &mut [u8],
@@ -135,23 +145,14 @@ fn turn(
     page: &mut [u8; 65536],
 ) -> Held
     requires { ⌜ Fits held (now line) ⌝ }
-    ensures { λ r. ⌜ Fits r (now (line .exit)) ⌝ }
+    ensures { λ r. ⌜ Reads held (now (line .entry)) (now (page .entry)) r (now (line .exit)) (now (page .exit)) ⌝ }
 {
     let mut buf = io::large_buffer();
     let got = libc::read(0, &mut buf);
-    if got <= 0 {
-        return Held {
-            line: held.line,
-            page: held.page,
-            lost: held.lost,
-            ended: true,
-        };
-    }
-    let n = io::count(got, &buf);
-    feed(&buf[..n], held, line, text, slots, out, page)
+    take_read(got, &buf, held, line, text, slots, out, page)
 }
 
-// The end of the input ends a line that has begun.
+// No more is read. The end of the input ends a line that has begun; where a read failed, a line that is not finished is left out.
 fn end_input(
     held: Held,
     line: &[u8],
@@ -163,6 +164,9 @@ fn end_input(
     requires { ⌜ (held .line ≤ length (now line)) × (held .page + longest ≤ pageRoom) ⌝ }
     ensures { λ r. ⌜ Ends held (now (line .entry)) (now (page .entry)) r (now (page .exit)) ⌝ }
 {
+    if !held.ended {
+        return held;
+    }
     if 0 < held.line {
         return end_line(held, line, text, slots, out, page);
     }
@@ -177,39 +181,61 @@ fn finish(
     slots: &mut [u32; 12288],
     out: &mut [u8; 16384],
     page: &mut [u8; 65536],
-)
+) -> Held
     requires { ⌜ Fits held (now line) ⌝ }
+    ensures { λ r. ⌜ (r .ended ≡ held .ended) × Closes (whole (held .ended) held (now (line .entry)) (now (page .entry)) []) held r ⌝ }
 {
     let ready = make_room(held, page);
     let last = end_input(ready, line, text, slots, out, page);
-    write_out(page, last.page, last.lost);
+    flush(last, page)
 }
 
+// Reads to the end of the input, or until a read or a write fails.
 fn run(
     line: &mut [u8],
     text: &mut [u8; 8192],
     slots: &mut [u32; 12288],
     out: &mut [u8; 16384],
     page: &mut [u8; 65536],
-)
+) -> Held
     requires { ⌜ length (now line) ≡ suc lineLimit ⌝ }
+    ensures { λ r. ⌜ Runs r ⌝ }
 {
     let mut held = Held {
         line: 0,
         page: 0,
+        sent: 0,
         lost: false,
         ended: false,
+        failed: false,
     };
     // No input has as many chunks as this; the bound shows that the loop ends.
     let mut turns = u64::MAX;
     while turns > 0 {
         held = turn(held, line, text, slots, out, page);
         turns -= 1;
-        if held.ended || held.lost {
+        if held.ended || held.failed || held.lost {
             turns = 0;
         }
     }
-    finish(held, line, text, slots, out, page);
+    finish(held, line, text, slots, out, page)
+}
+
+// Says on standard error what went wrong, as a program has no exit status to say it.
+fn say(held: Held) {
+    if held.lost {
+        io::write_all(
+            2,
+            b"shape: the output could not be written; what was written is the beginning of it\n",
+        );
+        return;
+    }
+    if !held.ended {
+        io::write_all(
+            2,
+            b"shape: the input could not be read to its end; a line that was not finished is left out\n",
+        );
+    }
 }
 
 fn main() {
@@ -218,5 +244,6 @@ fn main() {
     let mut slots = [0u32; 12288];
     let mut out = [0u8; 16384];
     let mut page = [0u8; 65536];
-    run(&mut line, &mut text, &mut slots, &mut out, &mut page);
+    let held = run(&mut line, &mut text, &mut slots, &mut out, &mut page);
+    say(held);
 }

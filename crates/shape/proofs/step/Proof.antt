@@ -13,7 +13,7 @@ same-length : tie.Need-same-length
 same-length c = search needs
 
 returns : tie.Need-returns
-returns c = takes-end (c .before .before .before .before .before .before .before .before .pre .0) (c .before .before .before .before .before .before .if1 .taken) (c .end-line .ensures .0) (c .end-line .ensures .1) (c .before .before .before .before .before .before .before .before .pre .1)
+returns c = takes-end (c .before .before .before .before .before .before .before .before .pre .0) (c .end-line .ensures .1) (c .before .before .before .before .before .before .if1 .taken) (c .end-line .ensures .0) (c .end-line .ensures .2) (c .before .before .before .before .before .before .before .before .pre .1)
 
 keep-requires : tie.Need-keep-requires
 keep-requires c κs = search needs
@@ -22,7 +22,7 @@ same-length-2 : tie.Need-same-length-2
 same-length-2 c = search needs
 
 returns-2 : tie.Need-returns-2
-returns-2 c = takes-kept (c .before .before .before .before .before .before .pre .0) (c .before .before .before .before .if1 .left) refl (c .before .before .keep .ensures) (omega arith)
+returns-2 c = takes-kept (c .before .before .before .before .before .before .pre .0) (record { sent = refl; lost = refl; ended = refl; failed = refl }) (c .before .before .before .before .if1 .left) refl (c .before .before .keep .ensures) (omega arith)
 
 pub step-spec : {M : Type 1} → statement M
 step-spec =
