@@ -106,7 +106,6 @@ impl Feeds {
         Feeds { command: [&shell[..], &self.command].concat(), runs: 0, wrong: 0 }
     }
 
-
     fn tell(&mut self, name: &str, fault: Option<String>) {
         self.runs += 1;
         if let Some(fault) = fault {
@@ -212,7 +211,7 @@ impl Feeds {
         });
         let id = program.child.id().to_string();
         for signal in ["-STOP", "-CONT"].iter().cycle().take(40) {
-            Command::new("kill").args([signal, &id[..]]).stderr(Stdio::null()).status().unwrap();
+            Command::new("sh").args(["-c", &format!("kill {signal} {id}")]).stderr(Stdio::null()).status().unwrap();
             thread::sleep(Duration::from_millis(3));
         }
         let mut run = program.end();
