@@ -1,3 +1,3 @@
 // A byte offset into a text. Offsets, token places and character codes are counted apart (document 01, "Token slots").
-#[derive(Drop)]
+#[derive(Clone, Copy)]
 pub struct Offset(pub usize);

@@ -7,7 +7,7 @@ ghost use Rattle.chars.specs.Steps.{scalar_of, size_of, fits_three, fits_four, b
 use crate::offset::Offset;
 
 // What stands at an offset: a character, as its scalar value and the offset after it; a byte at which none starts; or nothing.
-#[derive(Drop)]
+#[derive(Clone, Copy)]
 pub enum Step {
     Char(u32, Offset),
     Bad,
@@ -15,7 +15,7 @@ pub enum Step {
 }
 
 // Whether a text is valid; where it is not, the first byte of the first bad sequence.
-#[derive(Drop)]
+#[derive(Clone, Copy)]
 pub enum Verdict {
     Valid,
     BadAt(Offset),

@@ -1,4 +1,6 @@
 // The step in a loop, for bench/ to time. Apart from chars_c, since the step is compiled into its caller where it has one alone.
+#![tactic(auto)]
+
 ghost use Rattle.std.specs.Prelude.{◌≡◌, length};
 ghost use Rattle.chars.specs.Utf8.{chars};
 

@@ -1,4 +1,6 @@
 // chars for C and Rust to link: numbers and a #[repr(C)] struct in place of the enums.
+#![tactic(auto)]
+
 ghost use Rattle.std.specs.Prelude.{◌≡◌, length};
 ghost use Rattle.chars.specs.Class.{alphabetic, numeric};
 ghost use Rattle.chars.specs.Utf8.{first_bad};
@@ -35,7 +37,7 @@ pub extern "C" fn hay_valid_up_to(text: &[u8]) -> usize
 
 // A step as numbers. Status 0: a character, its scalar value and the offset after it; 1: a byte at which none starts; 2: the end.
 #[repr(C)]
-#[derive(Drop)]
+#[derive(Clone, Copy)]
 pub struct HayStep {
     pub status: u32,
     pub scalar: u32,

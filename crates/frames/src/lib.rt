@@ -1,4 +1,6 @@
 // From a line of hexadecimal to its frame, and the frame as the line that is printed. Document 01, "The program".
+#![tactic(auto)]
+
 ghost use Rattle.std.specs.Prelude.{◌≡◌, List, ℕ, ◌+◌, ◌*◌, ◌≤◌, ◌<◌, length, take};
 ghost use Rattle.tokens.specs.Answers.{refused, refusal};
 ghost use Rattle.frames.specs.Frames.{read_status, framed, in_numbers, FramesText, FramesLine, Leaves, printed, shown_over, longest, Prints};
@@ -13,7 +15,7 @@ pub mod hex;
 pub mod line;
 
 // A frame: the status byte, the stop offset or the detail, and how many bytes of the output are the shape.
-#[derive(Drop)]
+#[derive(Clone, Copy)]
 pub struct Frame {
     pub status: u8,
     pub number: usize,

@@ -8,7 +8,7 @@ use crate::hex::first_not_hex;
 pub const LIMIT: usize = 16384;
 
 // Fine, or refusal 8 with its detail.
-#[derive(Drop)]
+#[derive(Clone, Copy)]
 pub enum Line {
     Fine,
     Bad(usize),

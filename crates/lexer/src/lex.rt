@@ -20,14 +20,14 @@ use tokens::slot::{Slot, bare, put, whole_slots};
 use words::laid::{LETTERS, letter_table};
 
 // How many tokens were read, and where the reading stopped.
-#[derive(Drop)]
+#[derive(Clone, Copy)]
 pub struct Walked {
     pub tokens: usize,
     pub stop: Offset,
 }
 
 // Document 01: reading answers token count and stop offset.
-#[derive(Drop)]
+#[derive(Clone, Copy)]
 pub enum Lexed {
     Done(usize, Offset),
     Refused(Refusal),

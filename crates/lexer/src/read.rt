@@ -22,7 +22,7 @@ use words::known::{known_kind, zero_kind};
 use words::laid::LETTERS;
 
 // A token and the offset after it; or nothing, at a run that is not recognised.
-#[derive(Drop)]
+#[derive(Clone, Copy)]
 pub enum Step {
     Token(Slot, Offset),
     Stopped,

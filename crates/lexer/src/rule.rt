@@ -13,7 +13,7 @@ use chars::utf8::{Step, step_at};
 use tokens::kind;
 
 // Whether a `select` was read with no `from` since (rule 6).
-#[derive(Drop)]
+#[derive(Clone, Copy)]
 pub enum State {
     Default,
     PastSelect,
@@ -21,7 +21,7 @@ pub enum State {
 }
 
 // The rules. A quoted text and a single character know their kind.
-#[derive(Drop)]
+#[derive(Clone, Copy)]
 pub enum Rule {
     Quoted(u32),
     Line,

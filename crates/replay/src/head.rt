@@ -21,7 +21,7 @@ const MOST: usize = 1024;
 const LONGEST: usize = 1048577;
 
 // The numbers, by the places that main.rt gives.
-#[derive(Drop)]
+#[derive(Clone, Copy)]
 pub struct Head {
     pub fine: bool,
     pub words: usize,

@@ -12,6 +12,8 @@
 //   22  the words given; then the line's own text
 // A line of more than 16,384 characters, or not of this form, prints `no call`.
 // The calls are those of crate sql_lexer, in the numbers of include/hayrumble.h (crate sql_lexer_c), so that this face is replayed as well.
+#![tactic(auto)]
+
 ghost use Rattle.std.specs.Prelude.{◌≡◌, ◌+◌, ◌*◌, ◌≤◌, length};
 ghost use Rattle.replay.specs.Room.{Asks, Lent, Within};
 
@@ -204,7 +206,7 @@ fn feed(
 }
 
 // What a turn leaves: how much is held of a line, or the end of the input.
-#[derive(Drop)]
+#[derive(Clone, Copy)]
 enum Next {
     Held(usize),
     End,

@@ -6,7 +6,7 @@ ghost use Rattle.sanitizer.specs.Arms.{arm_of, arm};
 
 use tokens::kind;
 
-#[derive(Drop)]
+#[derive(Clone, Copy)]
 pub enum State {
     Default,
     ComparisonOperator,
@@ -22,7 +22,7 @@ pub enum State {
 }
 
 // What an arm does at a place.
-#[derive(Drop)]
+#[derive(Clone, Copy)]
 pub enum Does {
     // Goes on in the same state.
     Stay,
@@ -41,7 +41,7 @@ pub enum Does {
 }
 
 // An arm: its number, 1 to 32, and what it does.
-#[derive(Drop)]
+#[derive(Clone, Copy)]
 pub struct Arm(pub usize, pub Does);
 
 // Operator(_).

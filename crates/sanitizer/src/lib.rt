@@ -1,5 +1,7 @@
 // The sanitiser: sanitizer.rs in the Rust. It blanks and replaces the values of a list of tokens, by a table of eleven states and 32 arms.
 // Document 01, "sanitizer.rs".
+#![tactic(auto)]
+
 ghost use Rattle.std.specs.Prelude.{◌≤◌};
 ghost use Rattle.tokens.specs.Slots.{room, tokens_in, Left};
 ghost use Rattle.sanitizer.specs.Run.{sanitized, Known};
@@ -18,7 +20,7 @@ pub mod scan;
 pub mod turn;
 
 // The exposed count, or why the list is refused.
-#[derive(Drop)]
+#[derive(Clone, Copy)]
 pub enum Sanitized {
     Done(usize),
     Refused(Refusal),

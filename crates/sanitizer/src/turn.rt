@@ -13,7 +13,7 @@ use tokens::place::Place;
 use tokens::slot::{bare, put};
 
 // Where to read next, and in which state.
-#[derive(Drop)]
+#[derive(Clone, Copy)]
 pub struct Turn {
     pub next: Place,
     pub state: State,

@@ -6,7 +6,7 @@ ghost use Rattle.scans.specs.Scans.{in_run, goes_on};
 use chars::class::{is_alphabetic, is_numeric};
 
 // The stop rules that ask for a class of characters.
-#[derive(Drop)]
+#[derive(Clone, Copy)]
 pub enum Stop {
     Numerics,
     Charset,

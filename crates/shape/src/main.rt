@@ -1,5 +1,7 @@
 // The program of document 01: lines of hexadecimal on standard input, one frame a line on standard output.
 // A line's frame is proved in crate frames; here lines are cut from the input, and frames collected until a page is written (page.rt).
+#![tactic(auto)]
+
 ghost use Rattle.std.specs.Prelude.{◌≡◌, suc, ◌+◌, ◌≤◌, [], length, take};
 ghost use Rattle.frames.specs.Frames.{line_limit, longest, Prints};
 ghost use Rattle.shape.specs.Fits.{Fits, Still, page_room, whole, Keeps, Takes, Ends};
@@ -12,7 +14,7 @@ mod page;
 
 // How much is held of the line and of the page; how many bytes the writes took, as a counter of 64 bits; whether one took fewer than it was to;
 // and whether the input has ended, or a read failed.
-#[derive(Drop)]
+#[derive(Clone, Copy)]
 struct Held {
     line: usize,
     page: usize,

@@ -1,5 +1,7 @@
 // Hayrumble's public face: lib.rs in the Rust. A statement is read into tokens, the tokens are sanitised, and what is left is written as
 // text; `sanitize_string` does the three in one call. Document 01, "Refusal numbers", says which call refuses what, in which order.
+#![tactic(auto)]
+
 ghost use Rattle.tokens.specs.Content.{HandsOut};
 ghost use Rattle.lexer.specs.Lexes.{Lexes};
 ghost use Rattle.sanitizer.specs.Promise.{Sanitizes};
@@ -13,7 +15,7 @@ use tokens::refusal::Refusal;
 use writer::{Wrote, fill, measure};
 
 // What is told of a statement whose shape was written.
-#[derive(Drop)]
+#[derive(Clone, Copy)]
 pub struct Figures {
     pub tokens: usize,
     pub stop: Offset,
@@ -22,7 +24,7 @@ pub struct Figures {
 }
 
 // The figures, or why there is no shape.
-#[derive(Drop)]
+#[derive(Clone, Copy)]
 pub enum Shaped {
     Done(Figures),
     Refused(Refusal),

@@ -1,5 +1,7 @@
 // The calls for Rust and C: `extern "C"` over the public face. Nothing is decided here; an answer becomes the paper's numbers. In C,
 // include/hayrumble.h.
+#![tactic(auto)]
+
 ghost use Rattle.std.specs.Prelude.{◌≡◌, List, ℕ, length};
 ghost use Rattle.scans.specs.Ways.{pinned};
 ghost use Rattle.lexer.specs.Lexes.{lex_answer, lex_buffer};
@@ -21,7 +23,7 @@ use writer::Wrote;
 // An answer: a refusal, 1 to 7, and its detail; or refusal 0, and the numbers that the call answers with. A field that an answer
 // does not have is 0.
 #[repr(C)]
-#[derive(Drop)]
+#[derive(Clone, Copy)]
 pub struct HayAnswer {
     pub refusal: u64,
     pub detail: u64,

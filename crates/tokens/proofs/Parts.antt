@@ -41,21 +41,21 @@ module _ (text : List ℕ) (start end : ℕ) where
   pub length-content : start ≤ end → end ≤ length text → length (content text start end) ≡ end - start
   length-content h g = rw (content-within h g) (simp (length-take, length-drop) (omega arith))
 
--- the slice of some bytes of a text, so many bytes from where the text points, under some ghost name
-abbrev slice_at : Bor (List ℕ) → ℕ → List ℕ → ℕ → Bor (List ℕ)
-slice_at text first bytes name = record { ref_ptr = (text.ref_ptr.0, first + text.ref_ptr.1); ghost_name = name; now = bytes }
+-- the slice of some bytes of a text, so many bytes from where the text points
+abbrev slice_at : Bor (List ℕ) → ℕ → List ℕ → Bor (List ℕ)
+slice_at text first bytes = record { ref_ptr = (text.ref_ptr.0, first + text.ref_ptr.1); now = bytes }
 
-module _ (text : Bor (List ℕ)) (start end name : ℕ) where
-  none : within text.now start end ≡ false → HandsOut text start end (slice_at text 0 [] name)
+module _ (text : Bor (List ℕ)) (start end : ℕ) where
+  none : within text.now start end ≡ false → HandsOut text start end (slice_at text 0 [])
   unfolding content begins
   none e = record { bytes = rw e; points = rw e }
 
-  pub handed_within : start ≤ end → end ≤ length text.now → HandsOut text start end (slice_at text start (take (end - start) (drop start text.now)) name)
+  pub handed_within : start ≤ end → end ≤ length text.now → HandsOut text start end (slice_at text start (take (end - start) (drop start text.now)))
   unfolding content begins
   handed_within h g = let e = inside text.now start end h g in record { bytes = rw e; points = rw e }
 
-  pub handed_back : end < start → HandsOut text start end (slice_at text 0 [] name)
+  pub handed_back : end < start → HandsOut text start end (slice_at text 0 [])
   handed_back h = none (back text.now start end h)
 
-  pub handed_beyond : length text.now < end → HandsOut text start end (slice_at text 0 [] name)
+  pub handed_beyond : length text.now < end → HandsOut text start end (slice_at text 0 [])
   handed_beyond h = none (beyond text.now start end h)

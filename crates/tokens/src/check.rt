@@ -8,7 +8,7 @@ use crate::refusal::{LIMIT, Refusal};
 use crate::slot::whole_slots;
 use chars::utf8::{Verdict, validate};
 
-#[derive(Drop)]
+#[derive(Clone, Copy)]
 pub enum Checked {
     Fine,
     Refused(Refusal),

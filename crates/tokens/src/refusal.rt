@@ -5,7 +5,7 @@ use chars::offset::Offset;
 // The most bytes a text may have, and the most tokens a count may state.
 pub const LIMIT: usize = 1_048_576;
 
-#[derive(Drop)]
+#[derive(Clone, Copy)]
 pub enum Refusal {
     // The text is over the limit: its length.
     TextTooLong(usize),

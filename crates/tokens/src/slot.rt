@@ -6,7 +6,7 @@ ghost use Rattle.tokens.specs.Slots.{bare, room, slot_at, stored};
 use crate::place::Place;
 
 // A token: its kind, and the two numbers that it carries.
-#[derive(Drop)]
+#[derive(Clone, Copy)]
 pub struct Slot {
     pub kind: u32,
     pub first: u32,

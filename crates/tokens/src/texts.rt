@@ -13,7 +13,7 @@ mod operators;
 mod words;
 
 // A text of up to nine bytes, with blanks after it.
-#[derive(Drop)]
+#[derive(Clone, Copy)]
 pub struct Fixed {
     pub bytes: [u8; 9],
     pub len: usize,

@@ -5,7 +5,7 @@ ghost use Rattle.words.specs.Known.{guess_of};
 use crate::laid::{run_guess, word_guess, zero_guess};
 
 // Which rows: 37 words, seventeen runs, the beginnings of hexadecimal and binary numbers.
-#[derive(Drop)]
+#[derive(Clone, Copy)]
 pub enum Sort {
     Words,
     Runs,
@@ -13,7 +13,7 @@ pub enum Sort {
 }
 
 // The row that a text can only be: where its letters start, how many they are, and its kind.
-#[derive(Drop)]
+#[derive(Clone, Copy)]
 pub struct Guess(pub usize, pub usize, pub u32);
 
 // By the numbers that tools/guesses prints.

@@ -6,7 +6,7 @@ ghost use Rattle.words.specs.Known.{known_texts};
 use tokens::kind;
 
 // A text of up to nine bytes, with blanks after it, and its kind.
-#[derive(Drop)]
+#[derive(Clone, Copy)]
 pub struct Known(pub [u8; 9], pub u32);
 
 pub const KNOWN: [Known; 56] = [

@@ -1,5 +1,7 @@
 // The writer: a token list over its statement, as text. In the Rust, writer.rs; document 01, "writer.rs".
 // The whole text is measured first, and the lent buffer is filled only if it fits.
+#![tactic(auto)]
+
 ghost use Rattle.std.specs.Prelude.{◌≡◌, ◌≤◌, length};
 ghost use Rattle.tokens.specs.Answers.{limit};
 ghost use Rattle.tokens.specs.Slots.{room, tokens_in};
@@ -22,7 +24,7 @@ pub mod survey;
 pub mod token;
 
 // The length of the text, or why it was not written.
-#[derive(Drop)]
+#[derive(Clone, Copy)]
 pub enum Wrote {
     Done(usize),
     Refused(Refusal),

@@ -16,7 +16,7 @@ use tokens::refusal::Refusal;
 use tokens::slot::{Slot, slot_at};
 
 // The first token that may not be written, or the count; and the length of the text before it.
-#[derive(Drop)]
+#[derive(Clone, Copy)]
 pub struct Seen {
     pub place: Place,
     pub total: usize,
