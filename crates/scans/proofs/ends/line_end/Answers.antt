@@ -10,11 +10,7 @@ use Rattle.chars.specs.Steps.{offset}
 use Rattle.scans.specs.Scans.{span, in_line}
 use Rattle.scans.specs.Next.{is_of, FirstOf}
 use Rattle.scans.proofs.ByteScans.{over_bytes, span_byte_first, span_byte_off, span_byte_end, line_alike}
-use Rattle.scans.proofs.ends.line_end.Statement.{statement}
-use Rattle.scans.proofs.ends.line_end.Tie as tie
-
-next-of-requires : tie.Need-next-of-requires
-next-of-requires c κs = omega (arith, c.before.requires.inside)
+use Rattle.scans.proofs.ends.line_end.Goals as goal
 
 -- the two are the bytes that end a line
 two : (c : ℕ) → not (in_line c) ≡ is_of 10 13 c
@@ -28,11 +24,10 @@ stops t at to f = span_byte_first in_line t 10 13 (λ c e. two c ∙ e) at to f 
     go (yes h) = span_byte_off in_line t to h (two _ ∙ f.found h)
     go (no h) = span_byte_end in_line t to (omega arith)
 
-returns : tie.Need-returns
-returns c =
-    let s = c.before.before in
-    let t = s.args.text.now in
-    ap offset (sym (stops t s.args.from.0 c.next_of.result.0 c.next_of.ensures) ∙ over_bytes in_line line_alike t s.args.from.0 s.requires)
+pub next_of-requires : goal.next_of-requires
+next_of-requires c = omega (arith, c.requires.inside)
 
-pub line_end_spec : {M : Type 1} → statement M
-line_end_spec = tie.close (tie.spec next-of-requires returns)
+pub returns : goal.returns
+returns c =
+    let t = c.args.text.now in
+    ap offset (sym (stops t c.args.from.0 c.next_of.result.0 c.next_of.ensures) ∙ over_bytes in_line line_alike t c.args.from.0 c.requires)
