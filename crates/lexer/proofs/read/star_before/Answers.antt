@@ -7,8 +7,7 @@ use mathlib.Core.List.{List}
 use lib.Dec.{eqb}
 use lib.ListN.{get_or}
 use Rattle.scans.specs.Whole.{star_before}
-use Rattle.lexer.proofs.read.star_before.Statement.{statement}
-use Rattle.lexer.proofs.read.star_before.Tie as tie
+use Rattle.lexer.proofs.read.star_before.Goals as goal
 
 first : (t : List ℕ) (n : ℕ) → n ≡ 0 → false ≡ star_before t n
 unfolding star_before
@@ -19,17 +18,14 @@ unfolding star_before
 later t zero h = absurd (h refl)
 later t (suc n) h = let e : suc n - 1 ≡ n = omega arith in rw e
 
-returns : tie.Need-returns
-returns c = first c.before.args.text.now c.before.args.at.0 c.if1.true
+pub returns-then-i-eq0 : goal.returns-then-i-eq0
+returns-then-i-eq0 c = first c.args.text.now c.args.at.0 c.if-i-eq0.true
 
-sub-result : tie.Need-overflow-sub-result
-sub-result c = omega arith
+pub overflow_sub-result : goal.overflow_sub-result
+overflow_sub-result c = omega arith
 
-shared-slice-read-result : tie.Need-shared-slice-read-result
-shared-slice-read-result c = omega arith
+pub bounds-text-i : goal.bounds-text-i
+bounds-text-i c = omega arith
 
-returns-2 : tie.Need-returns-2
-returns-2 c = let s = c.before.before in later s.args.text.now s.args.at.0 c.before.if1.false
-
-pub star_before_spec : {M : Type 1} → statement M
-star_before_spec = tie.close (tie.spec returns sub-result shared-slice-read-result returns-2)
+pub returns : goal.returns
+returns c = later c.args.text.now c.args.at.0 c.if-i-eq0.false
