@@ -12,33 +12,22 @@ use Rattle.tokens.proofs.Checking.{form_bad, form_fine}
 use Rattle.writer.specs.Promise.{check_cuts}
 use Rattle.writer.proofs.Answers.{cuts_found}
 use Rattle.writer.proofs.Surveying.{faulty-cuts}
-use borrow.Author.Rules.{rules}
-use Rattle.writer.proofs.survey.refusal_at.Statement.{statement}
-use Rattle.writer.proofs.survey.refusal_at.Tie as tie
+use Rattle.writer.proofs.survey.refusal_at.Goals as goal
 
-first-malformed-requires : tie.Need-first-malformed-requires
-first-malformed-requires c κs = search rules
-
-returns : tie.Need-returns
-returns c =
-    let call = c.before in
-    let x = call.before.before.before.args in
+pub returns-then-bad-count : goal.returns-then-bad-count
+returns-then-bad-count c =
+    let x = c.args in
     let ts = tokens_in x.slots.now x.count in
-    ap bad_token call.first-malformed.ensures
+    ap bad_token c.first_malformed-bad.ensures
     ∙ sym (ap (λ (a : Answer). a then check_cuts x.text.now ts)
-    (form_bad ts (omega (arith, length-tokens x.slots.now 0 x.count, call.first-malformed.ensures))))
+    (form_bad ts (omega (arith, length-tokens x.slots.now 0 x.count, c.first_malformed-bad.ensures))))
 
-returns-2 : tie.Need-returns-2
-returns-2 c =
-    let call = c.before in
-    let start = call.before.before.before in
-    let x = start.args in
+pub returns : goal.returns
+returns c =
+    let x = c.args in
     let ts = tokens_in x.slots.now x.count in
     let long = length-tokens x.slots.now 0 x.count in
-    let formed : length ts ≤ first_place malformed ts = omega (arith, long, call.first-malformed.ensures) in
-    let at = start.requires.2 ∙ faulty-cuts x.text.now ts formed in
+    let formed : length ts ≤ first_place malformed ts = omega (arith, long, c.first_malformed-bad.ensures) in
+    let at = c.requires.2 ∙ faulty-cuts x.text.now ts formed in
     ap cut_char at ∙ sym (cuts_found x.text.now ts (omega (arith, long, at)))
     ∙ sym (ap (λ (a : Answer). a then check_cuts x.text.now ts) (form_fine ts formed))
-
-pub refusal_at_spec : {M : Type 1} → statement M
-refusal_at_spec = tie.close (tie.spec first-malformed-requires returns returns-2)
