@@ -9,7 +9,6 @@ use Rattle.sanitizer.specs.declared.arms.State.TheVariants.{Default, ComparisonO
 use Rattle.sanitizer.specs.Arms.{arm, does_of, rules, arm_of}
 use Rattle.sanitizer.proofs.Deciding.{decided, decided_at, any_state_lem, states, but}
 use Rattle.sanitizer.proofs.arms.carrier.Goals as goal
-use Rattle.sanitizer.proofs.arms.carrier.Goals.{in_default-via-then-kind-lt67, in_default-via-else-kind-lt67+else-kind-lt77+then-kind-lt78, in_default-via-else-kind-lt67+else-kind-lt77+else-kind-lt78+else-kind-lt81}
 
 pub returns-in-ComparisonOperator : goal.returns-in-ComparisonOperator
 unfolding arm does_of rules arm_of is_operator is_keyword is_indicator
@@ -57,8 +56,8 @@ returns-in_default-state-3 c = let a = c.args in decided (states (Default ∷ In
 
 pub returns-in-InsertValues-state : goal.returns-in-InsertValues-state
 unfolding arm does_of rules arm_of is_operator is_keyword is_indicator
-returns-in-InsertValues-state c = let a = c.args in decided (states (InsertValues ∷ KeywordScopeStarted ∷ [])) kind.Backticked kind.Unknown (kind.DoubleQuoted ∷ kind.SingleQuoted ∷ kind.Numeric ∷ kind.Comment ∷ kind.NumberedPlaceholder ∷ []) 31 tt a.state a.kind c.in-InsertValues-state.in-InsertValues-state-own.keys1 (elim c.in_default.branch [ in_default-via-then-kind-lt67 w ↦ omega arith | in_default-via-else-kind-lt67+else-kind-lt77+then-kind-lt78 w ↦ omega arith | in_default-via-else-kind-lt67+else-kind-lt77+else-kind-lt78+else-kind-lt81 w ↦ omega arith ])
+returns-in-InsertValues-state c = let a = c.args in decided (states (InsertValues ∷ KeywordScopeStarted ∷ [])) kind.Backticked kind.Unknown (kind.DoubleQuoted ∷ kind.SingleQuoted ∷ kind.Numeric ∷ kind.Comment ∷ kind.NumberedPlaceholder ∷ []) 31 tt a.state a.kind c.in-InsertValues-state.in-InsertValues-state-own.keys1 (grind arith)
 
 pub returns-in_default-state-4 : goal.returns-in_default-state-4
 unfolding arm does_of rules arm_of is_operator is_keyword is_indicator
-returns-in_default-state-4 c = let a = c.args in decided (but (InsertValues ∷ KeywordScopeStarted ∷ [])) kind.Backticked kind.Unknown (kind.DoubleQuoted ∷ kind.SingleQuoted ∷ kind.Numeric ∷ kind.Comment ∷ kind.NumberedPlaceholder ∷ []) 32 tt a.state a.kind (opened c.in_default-state-4.in_default-state-4-own.keys2) (elim c.in_default.branch [ in_default-via-then-kind-lt67 w ↦ omega arith | in_default-via-else-kind-lt67+else-kind-lt77+then-kind-lt78 w ↦ omega arith | in_default-via-else-kind-lt67+else-kind-lt77+else-kind-lt78+else-kind-lt81 w ↦ omega arith ])
+returns-in_default-state-4 c = let a = c.args in decided (but (InsertValues ∷ KeywordScopeStarted ∷ [])) kind.Backticked kind.Unknown (kind.DoubleQuoted ∷ kind.SingleQuoted ∷ kind.Numeric ∷ kind.Comment ∷ kind.NumberedPlaceholder ∷ []) 32 tt a.state a.kind (opened c.in_default-state-4.in_default-state-4-own.keys2) (grind arith)

@@ -9,7 +9,6 @@ use Rattle.sanitizer.specs.declared.arms.State.TheVariants.{Default, ComparisonO
 use Rattle.sanitizer.specs.Arms.{arm, does_of, rules, arm_of}
 use Rattle.sanitizer.proofs.Deciding.{decided, states, but}
 use Rattle.sanitizer.proofs.arms.fixed.Goals as goal
-use Rattle.sanitizer.proofs.arms.fixed.Goals.{in_default-via-then-kind-lt14, in_default-via-else-kind-lt14+else-kind-lt17}
 
 pub returns-in-ComparisonOperator : goal.returns-in-ComparisonOperator
 unfolding arm does_of rules arm_of is_operator is_keyword is_indicator
@@ -25,8 +24,8 @@ returns-in_default-state c = let a = c.args in decided (states (Default ∷ Inse
 
 pub returns-in-InsertValues : goal.returns-in-InsertValues
 unfolding arm does_of rules arm_of is_operator is_keyword is_indicator
-returns-in-InsertValues c = let a = c.args in decided (states (InsertValues ∷ KeywordScopeStarted ∷ [])) kind.Colon kind.Ellipsis [] 31 tt a.state a.kind c.in-InsertValues.in-InsertValues-own.keys1 (elim c.in_default.branch [ in_default-via-then-kind-lt14 w ↦ omega arith | in_default-via-else-kind-lt14+else-kind-lt17 w ↦ omega arith ])
+returns-in-InsertValues c = let a = c.args in decided (states (InsertValues ∷ KeywordScopeStarted ∷ [])) kind.Colon kind.Ellipsis [] 31 tt a.state a.kind c.in-InsertValues.in-InsertValues-own.keys1 (grind arith)
 
 pub returns-in_default-state-2 : goal.returns-in_default-state-2
 unfolding arm does_of rules arm_of is_operator is_keyword is_indicator
-returns-in_default-state-2 c = let a = c.args in decided (but (InsertValues ∷ KeywordScopeStarted ∷ [])) kind.Colon kind.Ellipsis [] 32 tt a.state a.kind (opened c.in_default-state-2.in_default-state-2-own.keys2) (elim c.in_default.branch [ in_default-via-then-kind-lt14 w ↦ omega arith | in_default-via-else-kind-lt14+else-kind-lt17 w ↦ omega arith ])
+returns-in_default-state-2 c = let a = c.args in decided (but (InsertValues ∷ KeywordScopeStarted ∷ [])) kind.Colon kind.Ellipsis [] 32 tt a.state a.kind (opened c.in_default-state-2.in_default-state-2-own.keys2) (grind arith)

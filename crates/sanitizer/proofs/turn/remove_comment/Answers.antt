@@ -22,7 +22,7 @@ returns-then-kind_at-ne-SPACE c =
     λ n h l.
     let b : kind_before (tokens_in a.slots.now n) a.place.0 ≡ c.kind_at.result =
     before_stored a.slots.now n a.place.0 kind.None h (omega arith) c.replace.ensures ∙ sym c.kind_at.ensures in
-    left_is (comment_other (tokens_in a.slots.now n) a.place.0 (λ e. c.if-kind_at-ne-SPACE.true (sym b ∙ e))) (left_put n a.place.0 kind.None h l c.replace.ensures)
+    left_is (comment_other (tokens_in a.slots.now n) a.place.0 (λ e. omega (arith, b))) (left_put n a.place.0 kind.None h l c.replace.ensures)
 
 pub returns : goal.returns
 returns c =
@@ -31,6 +31,6 @@ returns c =
     let b : kind_before (tokens_in a.slots.now n) a.place.0 ≡ c.kind_at.result =
     before_stored a.slots.now n a.place.0 kind.None h (omega arith) c.replace.ensures ∙ sym c.kind_at.ensures in
     let one = left_put n a.place.0 kind.None h l c.replace.ensures in
-    left_is (comment_spaced (tokens_in a.slots.now n) a.place.0 (b ∙ c.if-kind_at-ne-SPACE.false))
+    left_is (comment_spaced (tokens_in a.slots.now n) a.place.0 (omega (arith, b)))
     (left_by (λ (ts : List Slot). set ts (a.place.0 - 1) (bare kind.None)) one
     (left_put n (a.place.0 - 1) kind.None (omega arith) (omega (arith, one.long)) c.replace-2.ensures))
