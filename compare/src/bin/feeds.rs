@@ -12,7 +12,6 @@ use std::fs::File;
 use std::io::{Read, Write};
 use std::os::fd::OwnedFd;
 use std::os::unix::net::{UnixDatagram, UnixStream};
-use std::os::unix::process::ExitStatusExt;
 use std::process::{Child, Command, ExitStatus, Stdio};
 use std::sync::mpsc::channel;
 use std::thread::{self, JoinHandle};
@@ -219,7 +218,8 @@ impl Feeds {
         self.all("a slow reader, and writes that take a part", run, due, "");
     }
 
-    // The reader goes away after some bytes. The program is then ended by the signal that tells it so, or, where that is ignored, by itself.
+    // The reader goes away after some bytes. The signal that tells a program so is ignored by Rattle's startup code, as by Rust's, whether or not
+    // the caller ignores it too: the write fails, and the program ends by itself.
     fn closed(&mut self, path: &str, due: &[u8], count: usize, ignored: bool) {
         let name = format!("a pipe closed after {count} bytes, the signal ignored: {ignored}");
         let program = if ignored { self.after("trap '' PIPE") } else { self.after(":") };
@@ -235,12 +235,7 @@ impl Feeds {
             return self.tell(&name, Some("less was printed".to_string()));
         };
         run.out = out;
-        if ignored {
-            self.cut(&name, run, due, count);
-        } else {
-            let signalled = run.status.signal() == Some(13) && due.starts_with(&run.out);
-            self.tell(&name, (!signalled).then(|| format!("it ended with {}; {}", run.status, difference(&run.out, due))));
-        }
+        self.cut(&name, run, due, count);
     }
 
     // A write that fails once and would not later: the output takes no more until its reader goes on, which is once the program has ended, or

@@ -23,6 +23,7 @@ use crate::print::{put_answer, put_no_call};
 use frames::hex::decode;
 use frames::line::{Line, check_line};
 use sql_lexer_c::{HayAnswer, hay_lex, hay_sanitize, hay_sanitize_string, hay_write};
+use std::io::{Print, Read, Stdin, Stdout};
 
 mod head;
 mod lay;
@@ -130,14 +131,15 @@ fn replay_line(
 }
 
 // Writes the first `count` bytes.
-fn write_out(page: &[u8], count: usize)
+fn write_out(stdout: Stdout, page: &[u8], count: usize)
     requires { count ≤ length page.now }
 {
-    io::write_all(1, &page[..count]);
+    let _ = stdout.write_all(&page[..count]);
 }
 
 // Prints and writes the answer of a line.
 fn end_line(
+    stdout: Stdout,
     line: &[u8],
     bytes: &mut [u8; 8192],
     text: &mut [u8; 1048577],
@@ -146,7 +148,7 @@ fn end_line(
     page: &mut [u8; 16384],
 ) {
     let n = replay_line(line, bytes, text, slots, out, page);
-    write_out(page, n);
+    write_out(stdout, page, n);
 }
 
 // Keeps a character of the line, where there is room: for one more than a line may have.
@@ -163,6 +165,7 @@ fn keep(line: &mut [u8], count: usize, c: u8) -> usize
 
 // Takes one character of the input: how much is then held of a line.
 fn step(
+    stdout: Stdout,
     line: &mut [u8],
     held: usize,
     c: u8,
@@ -176,7 +179,7 @@ fn step(
     ensures { result ≤ length line.new }
 {
     if c == b'\n' {
-        end_line(&line[..held], bytes, text, slots, out, page);
+        end_line(stdout, &line[..held], bytes, text, slots, out, page);
         return 0;
     }
     keep(line, held, c)
@@ -184,6 +187,7 @@ fn step(
 
 // Takes a chunk of the input.
 fn feed(
+    stdout: Stdout,
     chunk: &[u8],
     line: &mut [u8],
     start: usize,
@@ -199,7 +203,7 @@ fn feed(
     let mut held = start;
     let mut i = 0;
     while i < chunk.len() {
-        held = step(line, held, chunk[i], bytes, text, slots, out, page);
+        held = step(stdout, line, held, chunk[i], bytes, text, slots, out, page);
         i += 1;
     }
     held
@@ -212,8 +216,21 @@ enum Next {
     End,
 }
 
+// Reads once into buf: how many bytes it gave, none at the end of the input or where it failed.
+fn read_some(stdin: Stdin, buf: &mut [u8]) -> usize
+    ensures { result ≤ length buf.new }
+{
+    let mut input = stdin;
+    match input.read(buf) {
+        Ok(n) => n,
+        Err(_) => 0,
+    }
+}
+
 // Reads a chunk and takes it. Every line ends in LF, so nothing is left at the end of the input.
 fn turn(
+    stdin: Stdin,
+    stdout: Stdout,
     line: &mut [u8],
     held: usize,
     bytes: &mut [u8; 8192],
@@ -225,18 +242,19 @@ fn turn(
     requires { held ≤ length line.old }
     ensures { Within result (length line.new) }
 {
-    let mut buf = io::large_buffer();
-    let got = libc::read(0, &mut buf);
-    if got <= 0 {
+    let mut buf = [0u8; 65536];
+    let n = read_some(stdin, &mut buf);
+    if n == 0 {
         return Next::End;
     }
-    let n = io::count(got, &buf);
-    let next = feed(&buf[..n], line, held, bytes, text, slots, out, page);
+    let next = feed(stdout, &buf[..n], line, held, bytes, text, slots, out, page);
     Next::Held(next)
 }
 
 // Turn by turn, to the end of the input.
 fn run(
+    stdin: Stdin,
+    stdout: Stdout,
     line: &mut [u8],
     bytes: &mut [u8; 8192],
     text: &mut [u8; 1048577],
@@ -248,7 +266,7 @@ fn run(
     // No input has as many chunks as this; the bound shows that the loop ends.
     let mut turns = u64::MAX;
     while turns > 0 {
-        match turn(line, held, bytes, text, slots, out, page) {
+        match turn(stdin, stdout, line, held, bytes, text, slots, out, page) {
             Next::Held(n) => {
                 held = n;
             }
@@ -260,7 +278,7 @@ fn run(
     }
 }
 
-fn main() {
+fn main(rt: HostRuntime) {
     let mut line = [0u8; 16385];
     let mut bytes = [0u8; 8192];
     let mut text = [0u8; 1048577];
@@ -268,6 +286,13 @@ fn main() {
     let mut out = [0u8; 1024];
     let mut page = [0u8; 16384];
     run(
-        &mut line, &mut bytes, &mut text, &mut slots, &mut out, &mut page,
+        rt.stdin(),
+        rt.stdout(),
+        &mut line,
+        &mut bytes,
+        &mut text,
+        &mut slots,
+        &mut out,
+        &mut page,
     );
 }

@@ -1,3 +1,4 @@
 pub mod Due
 pub mod Fits
+pub mod Moved
 pub mod Passes

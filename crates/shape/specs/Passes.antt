@@ -1,11 +1,10 @@
 -- What passes through the program: chunks that reads gave, and what writes took. Which bytes these were no contract can say; how many there
 -- were the two functions answer, and all else is said here. Assumes nothing.
 use Rattle.std.specs.Prelude.{◌≡◌, ℕ, ◌+◌, ◌%◌, ◌^◌, ◌≤◌, Bool, true, false, ◌||◌, ◌⊎◌, List, [], ◌++◌, length, take, ℤ, pos, negsuc, ◌==◌, nat_lt}
-use Rattle.libc.specs.Io.{Moved}
-use Rattle.io.specs.Counts.{clamp_len}
 use Rattle.frames.specs.Frames.{longest}
 use Rattle.shape.specs.Due.{output}
 use Rattle.shape.specs.Fits.{Fits, page_room, whole}
+use Rattle.shape.specs.Moved.{Moved, clamp_len}
 use Rattle.shape.specs.declared.Held.{Held}
 
 -- a counter of 64 bits went from n to m while w was written

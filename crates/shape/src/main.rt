@@ -7,9 +7,12 @@ ghost use Rattle.frames.specs.Frames.{line_limit, longest, Prints};
 ghost use Rattle.shape.specs.Fits.{Fits, Still, page_room, whole, Keeps, Takes, Ends};
 ghost use Rattle.shape.specs.Passes.{Passes, Took, Reads, Closes, Runs};
 
+use crate::input::{count, read_some};
 use crate::page::{flush, make_room};
 use frames::print_frame;
+use std::io::{Print, Stderr, Stdin, Stdout};
 
+mod input;
 mod page;
 
 // How much is held of the line and of the page; how many bytes the writes took, as a counter of 64 bits; whether one took fewer than it was to;
@@ -88,6 +91,7 @@ fn step(
 
 // Takes a chunk of the input.
 fn feed(
+    stdout: Stdout,
     chunk: &[u8],
     start: Held,
     line: &mut [u8],
@@ -102,7 +106,7 @@ fn feed(
     let mut held = start;
     let mut i = 0;
     while i < chunk.len() {
-        held = make_room(held, page);
+        held = make_room(stdout, held, page);
         held = step(held, chunk[i], line, text, slots, out, page);
         i += 1;
     }
@@ -111,6 +115,7 @@ fn feed(
 
 // Takes what a read gave: its answer, and the buffer that it read into.
 fn take_read(
+    stdout: Stdout,
     got: isize,
     buf: &[u8],
     held: Held,
@@ -123,8 +128,8 @@ fn take_read(
     requires { Fits held line.old }
     ensures { Took got buf.now held line.old page.old result line.new page.new }
 {
-    let n = io::count(got, buf);
-    let fed = feed(&buf[..n], held, line, text, slots, out, page);
+    let n = count(got, buf);
+    let fed = feed(stdout, &buf[..n], held, line, text, slots, out, page);
     Held {
         line: fed.line,
         page: fed.page,
@@ -137,6 +142,8 @@ fn take_read(
 
 // Reads a chunk and takes it.
 fn turn(
+    stdin: Stdin,
+    stdout: Stdout,
     held: Held,
     line: &mut [u8],
     text: &mut [u8; 8192],
@@ -147,9 +154,9 @@ fn turn(
     requires { Fits held line.old }
     ensures { Reads held line.old page.old result line.new page.new }
 {
-    let mut buf = io::large_buffer();
-    let got = libc::read(0, &mut buf);
-    take_read(got, &buf, held, line, text, slots, out, page)
+    let mut buf = [0u8; 65536];
+    let got = read_some(stdin, &mut buf);
+    take_read(stdout, got, &buf, held, line, text, slots, out, page)
 }
 
 // No more is read. The end of the input ends a line that has begun; where a read failed, a line that is not finished is left out.
@@ -175,6 +182,7 @@ fn end_input(
 
 // What is left is printed, and the last page written.
 fn finish(
+    stdout: Stdout,
     held: Held,
     line: &[u8],
     text: &mut [u8; 8192],
@@ -185,13 +193,15 @@ fn finish(
     requires { Fits held line.now }
     ensures { (result.ended ≡ held.ended) × Closes (whole held.ended held line.now page.old []) held result }
 {
-    let ready = make_room(held, page);
+    let ready = make_room(stdout, held, page);
     let last = end_input(ready, line, text, slots, out, page);
-    flush(last, page)
+    flush(stdout, last, page)
 }
 
 // Reads to the end of the input, or until a read or a write fails.
 fn run(
+    stdin: Stdin,
+    stdout: Stdout,
     line: &mut [u8],
     text: &mut [u8; 8192],
     slots: &mut [u32; 12288],
@@ -212,38 +222,44 @@ fn run(
     // No input has as many chunks as this; the bound shows that the loop ends.
     let mut turns = u64::MAX;
     while turns > 0 {
-        held = turn(held, line, text, slots, out, page);
+        held = turn(stdin, stdout, held, line, text, slots, out, page);
         turns -= 1;
         if held.ended || held.failed || held.lost {
             turns = 0;
         }
     }
-    finish(held, line, text, slots, out, page)
+    finish(stdout, held, line, text, slots, out, page)
 }
 
-// Says on standard error what went wrong, as a program has no exit status to say it.
-fn say(held: Held) {
+// Says on standard error what went wrong; the exit status is 0 all the same.
+fn say(stderr: Stderr, held: Held) {
     if held.lost {
-        io::write_all(
-            2,
+        let _ = stderr.write_all(
             b"shape: the output could not be written; what was written is the beginning of it\n",
         );
         return;
     }
     if !held.ended {
-        io::write_all(
-            2,
+        let _ = stderr.write_all(
             b"shape: the input could not be read to its end; a line that was not finished is left out\n",
         );
     }
 }
 
-fn main() {
+fn main(rt: HostRuntime) {
     let mut line = [0u8; 16385];
     let mut text = [0u8; 8192];
     let mut slots = [0u32; 12288];
     let mut out = [0u8; 16384];
     let mut page = [0u8; 65536];
-    let held = run(&mut line, &mut text, &mut slots, &mut out, &mut page);
-    say(held);
+    let held = run(
+        rt.stdin(),
+        rt.stdout(),
+        &mut line,
+        &mut text,
+        &mut slots,
+        &mut out,
+        &mut page,
+    );
+    say(rt.stderr(), held);
 }

@@ -1,5 +1,5 @@
-// The calls for Rust and C: `extern "C"` over the public face. Nothing is decided here; an answer becomes the paper's numbers. In C,
-// include/hayrumble.h.
+// The calls for Rust and C: the public face in numbers, which hayrumble_c exports. Nothing is decided here; an answer becomes the paper's
+// numbers. In C, include/hayrumble.h.
 #![tactic(auto)]
 
 ghost use Rattle.std.specs.Prelude.{◌≡◌, List, ℕ, length};
@@ -61,8 +61,7 @@ fn refusal_numbers(why: Refusal) -> HayAnswer
     }
 }
 
-#[unsafe(no_mangle)]
-pub extern "C" fn hay_lex(text: &[u8], slots: &mut [u32]) -> HayAnswer
+pub fn hay_lex(text: &[u8], slots: &mut [u32]) -> HayAnswer
     ensures value { result ≡ in_numbers of_reading (lex_answer pinned text.now (room slots.old)) }
     ensures slots_after { slots.new ≡ lex_buffer pinned text.now slots.old }
 {
@@ -80,8 +79,7 @@ pub extern "C" fn hay_lex(text: &[u8], slots: &mut [u32]) -> HayAnswer
     }
 }
 
-#[unsafe(no_mangle)]
-pub extern "C" fn hay_sanitize(slots: &mut [u32], count: usize) -> HayAnswer
+pub fn hay_sanitize(slots: &mut [u32], count: usize) -> HayAnswer
     ensures value { result ≡ in_numbers of_sanitising (sanitize_answer slots.old count) }
     ensures slots_after { slots.new ≡ sanitize_buffer slots.old count }
 {
@@ -99,8 +97,7 @@ pub extern "C" fn hay_sanitize(slots: &mut [u32], count: usize) -> HayAnswer
     }
 }
 
-#[unsafe(no_mangle)]
-pub extern "C" fn hay_write(text: &[u8], slots: &[u32], count: usize, out: &mut [u8]) -> HayAnswer
+pub fn hay_write(text: &[u8], slots: &[u32], count: usize, out: &mut [u8]) -> HayAnswer
     ensures value { result ≡ in_numbers of_writing (write_answer text.now slots.now count (length out.old)) }
     ensures out_after { out.new ≡ afterwards (write_answer text.now slots.now count (length out.old)) (onto (written text.now (tokens_in slots.now count)) out.old) out.old }
 {
@@ -118,8 +115,7 @@ pub extern "C" fn hay_write(text: &[u8], slots: &[u32], count: usize, out: &mut 
     }
 }
 
-#[unsafe(no_mangle)]
-pub extern "C" fn hay_sanitize_string(text: &[u8], slots: &mut [u32], out: &mut [u8]) -> HayAnswer
+pub fn hay_sanitize_string(text: &[u8], slots: &mut [u32], out: &mut [u8]) -> HayAnswer
     ensures value { result ≡ in_numbers of_shaping (string_answer pinned text.now (room slots.old) (length out.old)) }
     ensures slots_after { slots.new ≡ string_slots pinned text.now slots.old }
     ensures out_after { out.new ≡ string_out pinned text.now (room slots.old) out.old }
