@@ -7,11 +7,11 @@
 -- end_told, failure_told, took_as           a read's answer as the code tests it, and what it gave
 -- Since, since_start, since_read, since_runs   all that was read since the start: the invariant of the loop
 -- Assumes nothing.
-use Rattle.std.proofs.Common.{◌≡◌, ℕ, suc, ◌+◌, ◌-◌, ◌%◌, ◌^◌, ◌≤◌, Bool, true, false, ◌||◌, eqb, ltb, ◌⊎◌, List, [], ◌∷◌, ◌++◌, length, take, drop, ℤ, pos, negsuc, sym, refl, ap, ◌∙◌, subst, ⊎_elim, true≢false, append_assoc, append-nil, arith, length-append, take-append-drop, drop_of_length-le, length-take-le, w64, SFits, to_z, of_z, ltb-false, le-ltb, ne_eqb}
+use Rattle.std.proofs.Common.{◌≡◌, ℕ, suc, ◌+◌, ◌-◌, ◌%◌, ◌^◌, ◌≤◌, Bool, true, false, ◌||◌, eqb, ltb, List, [], ◌∷◌, ◌++◌, length, take, drop, ℤ, pos, negsuc, sym, refl, ap, ◌∙◌, subst, ⊎_elim, true≢false, append_assoc, append-nil, arith, length-append, take-append-drop, drop_of_length-le, length-take-le, w64, SFits, to_z, of_z, ltb-false, le-ltb, ne_eqb}
 use native.Mathlib.Nat.{mod-add-mod, mod-mod}
 use mir.ValLaws.{to_z-of_z}
 use lib.Signed.{lt_z}
-use Rattle.io.specs.Counts.{clamp_len}
+use Rattle.shape.specs.Moved.{clamp_len}
 use Rattle.shape.specs.declared.Held.{Held}
 use Rattle.shape.specs.Due.{due, output}
 use Rattle.shape.specs.Fits.{Fits, whole, Takes, Ends}

@@ -1,5 +1,5 @@
 -- What the program holds between two characters. Assumes nothing.
-use Rattle.std.specs.Prelude.{◌≡◌, ℕ, suc, ◌+◌, ◌<◌, ◌≤◌, Bool, List, [], ◌∷◌, ◌++◌, length, take}
+use Rattle.std.specs.Prelude.{◌≡◌, ℕ, suc, ◌<◌, ◌≤◌, Bool, List, [], ◌∷◌, ◌++◌, length, take}
 use Rattle.frames.specs.Frames.{line_limit}
 use Rattle.shape.specs.Due.{due}
 use Rattle.shape.specs.declared.Held.{Held}
