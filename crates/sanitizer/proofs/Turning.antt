@@ -27,7 +27,7 @@ use Rattle.sanitizer.specs.declared.arms.Arm.{Arm}
 use Rattle.sanitizer.specs.Arms.{arm_of, does_of, arm}
 use Rattle.sanitizer.specs.Scans.{kind_at, kind_before}
 use Rattle.sanitizer.specs.Run.{turn, turn_by, run, sanitized, blank, uncommented}
-use Rattle.sanitizer.specs.Contracts.{Turned, Blanked}
+use Rattle.sanitizer.specs.Leaves.{Turned, Blanked}
 use Rattle.sanitizer.proofs.Scanning.{kind_of, kind_tokens, before_is, before_first}
 
 -- ---- changes to the buffer

@@ -1,6 +1,6 @@
 pub mod Arms
 pub mod Scans
 pub mod Run
-pub mod Contracts
+pub mod Leaves
 pub mod Exposed
 pub mod Promise

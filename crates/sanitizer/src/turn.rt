@@ -1,10 +1,10 @@
-// One turn of the sanitiser: the arm that takes the token at a place, carried out. Document 01, "sanitizer.rs"; specs/Run.antt, specs/Contracts.antt.
+// One turn of the sanitiser: the arm that takes the token at a place, carried out. Document 01, "sanitizer.rs"; specs/Run.antt, specs/Leaves.antt.
 ghost use Rattle.std.specs.Prelude.{◌≡◌, ◌≤◌, ◌<◌, ◌+◌};
 ghost use Rattle.tokens.specs.Kinds as kinds;
 ghost use Rattle.tokens.specs.Slots.{room, bare, stored, tokens_in};
 ghost use Rattle.sanitizer.specs.Scans.{kind_at};
 ghost use Rattle.sanitizer.specs.Run.{turn};
-ghost use Rattle.sanitizer.specs.Contracts.{Turned, Blanked, Covered, Uncommented};
+ghost use Rattle.sanitizer.specs.Leaves.{Turned, Blanked, Covered, Uncommented};
 
 use crate::arms::{Does, State, choose};
 use crate::scan::{close_from, is_dotted, kind_at, rows_from};

@@ -6,7 +6,7 @@
 -- uncut_fine      refusal 6 is not given
 -- Assumes nothing.
 use mathlib.Core.Path.{◌≡◌, refl, sym, ap, ◌∙◌}
-use mathlib.Core.Bool.{Bool, true, false, cond, not, ◌&&◌, ◌||◌, and-false}
+use mathlib.Core.Bool.{Bool, true, false, not, and-false}
 use mathlib.Core.Logic.{inl, inr, ⊎_elim}
 use mathlib.Core.List.{List, [], ◌∷◌, ◌++◌}
 use mathlib.Core.Option.{none}
@@ -16,7 +16,7 @@ use native.Mathlib.Omega.{arith}
 use lib.Dec.{eqb, leb, ltb}
 use lib.ListN.{length, get_or, drop}
 use lib.Seq.{drop-drop, get_or-drop}
-use borrow.Author.Tests.{lt-leb, le-leb, ltb-false, ltb-true, le-ltb}
+use borrow.Author.Tests.{lt-leb, ltb-true, le-ltb}
 use Rattle.chars.specs.Utf8.{chars, width, encode, encode_all, is_scalar, all_scalars, follows, first_bad}
 use Rattle.chars.proofs.Bytes.{and_l, and_r}
 use Rattle.chars.proofs.Whole.{whole}
@@ -24,7 +24,6 @@ use Rattle.chars.proofs.Rfc.{chars_scalars}
 use Rattle.chars.proofs.Scalars.{clash}
 use Rattle.tokens.specs.Kinds as kind
 use Rattle.tokens.specs.Slots.{bare}
-use Rattle.tokens.specs.Answers.{Answer, cut_char}
 use Rattle.tokens.specs.Checks.{fine}
 use Rattle.tokens.specs.Formed.{carries_offsets, first_place}
 use Rattle.tokens.specs.declared.slot.Slot.{Slot}

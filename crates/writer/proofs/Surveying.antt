@@ -8,7 +8,7 @@
 -- Assumes nothing.
 use mathlib.Core.Path.{◌≡◌, refl, ap, sym, ◌∙◌}
 use mathlib.Core.Logic.{◌⊎◌, inl, inr}
-use mathlib.Core.Bool.{Bool, true, false, cond, not, ◌||◌, or_false, false≢true}
+use mathlib.Core.Bool.{Bool, true, false, cond, not, ◌||◌, or-false, false≢true}
 use mathlib.Core.List.{List, [], ◌∷◌, ◌++◌}
 use Prim.Native.Nat.{ℕ, suc, ◌+◌, ◌≤◌, ◌<◌}
 use Prim.Native.Char.{code}
@@ -74,7 +74,7 @@ module _ (text : List ℕ) (t : Slot) where
   module _ (h : t.kind < kind.Other) where
     plain : faulty text t ≡ not (well_formed t)
     unfolding faulty
-    plain = rw (cuts_kind text t (carries_low t.kind (omega arith) (omega arith)), or_false)
+    plain = rw (cuts_kind text t (carries_low t.kind (omega arith) (omega arith)), or-false)
 
     pub faulty_first : (t.first ≡ 0 → ⊥) → faulty text t ≡ true
     faulty_first n = plain ∙ rw (formed_plain t (omega arith) (omega arith), ne_eqb t.first 0 n)
@@ -88,7 +88,7 @@ module _ (text : List ℕ) (t : Slot) where
 
   pub faulty-bare : carries_offsets t.kind ≡ false → faulty text t ≡ not (well_formed t)
   unfolding faulty
-  faulty-bare e = rw (cuts_kind text t e, or_false)
+  faulty-bare e = rw (cuts_kind text t e, or-false)
 
 -- ---- the list
 module _ (p q : Slot → Bool) where

@@ -1,0 +1,14 @@
+-- `sanitizer::pass` meets its contract. The invariant: the turns still to take end in the sanitised list, and past the count nothing is changed.
+-- Assumes nothing.
+use Prim.Native.Nat.{◌≤◌, ◌+◌, ◌-◌}
+use Rattle.tokens.specs.Slots.{tokens_in, Left}
+use Rattle.sanitizer.specs.Run.{sanitized, Known}
+use Rattle.sanitizer.proofs.Turning.{Runs}
+use Rattle.sanitizer.proofs.pass.Given as goal
+
+abbrev pub invariant-loop-at : goal.invariant-loop-at
+invariant-loop-at l =
+    (l.at ≤ l.count + 1) × Left l.count l.initial.slots l.slots (tokens_in l.slots l.count) × Known (tokens_in l.slots l.count) × Runs l.count l.slots l.at l.state (sanitized (tokens_in l.initial.slots l.count))
+
+abbrev pub decreases-loop-at : goal.decreases-loop-at
+decreases-loop-at l = l.count - l.at

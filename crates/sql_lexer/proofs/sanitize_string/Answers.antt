@@ -1,0 +1,67 @@
+-- `sql_lexer::sanitize_string` meets its contract: what each stage leaves is what the next asks for, and each answer is a case of
+-- `string_answer`. Assumes nothing.
+use mathlib.Core.Path.{◌≡◌, refl, ap, subst, ◌∙◌}
+use mathlib.Core.List.{List}
+use Prim.Native.Nat.{ℕ}
+use native.Mathlib.Omega.{arith}
+use lib.ListN.{length}
+use Rattle.tokens.specs.declared.slot.Slot.{Slot}
+use Rattle.tokens.specs.Slots.{tokens_in}
+use Rattle.scans.specs.Ways.{pinned}
+use Rattle.lexer.specs.Lexes.{Lexes}
+use Rattle.lexer.specs.declared.lex.Lexed.{Lexed}
+use Rattle.lexer.specs.declared.lex.Lexed.TheVariants.{Done}
+use Rattle.chars.specs.declared.offset.Offset.{Offset}
+use Rattle.lexer.proofs.Turns.{tokens_few}
+use Rattle.writer.specs.Written.{written, onto}
+use Rattle.sql_lexer.specs.Promise.{shape}
+use Rattle.sql_lexer.proofs.Stages.{Readied, lex_readied, readied_known, Cleaned, cleaned}
+use Rattle.sql_lexer.proofs.Answers.{not_read, no_room, shaped}
+use Rattle.sql_lexer.proofs.sanitize_string.Goals as goal
+
+-- the text was read
+readied : (text ws : List ℕ) (r : Lexed) (n : ℕ) (stop : Offset) (left : List ℕ) → r ≡ Done n stop → Lexes text ws r left → Readied text ws n stop.0 left
+readied text ws r n stop left e l = lex_readied (subst (λ (x : Lexed). Lexes text ws x left) e l)
+
+-- what was measured, or filled in, is the shape
+module _ {text ws : List ℕ} {n shown : ℕ} {left : List ℕ} (k : Cleaned text ws n shown left) where
+  measured : (m : ℕ) → m ≡ length (written text (tokens_in left n)) → m ≡ length (shape pinned text)
+  unfolding shape
+  measured m e = e ∙ ap (λ (ts : List Slot). length (written text ts)) k.tokens
+
+  filled : (out after : List ℕ) → after ≡ onto (written text (tokens_in left n)) out → after ≡ onto (shape pinned text) out
+  unfolding shape
+  filled out after e = e ∙ ap (λ (ts : List Slot). onto (written text ts) out) k.tokens
+
+pub sanitize_tokens-exposed-requires : goal.sanitize_tokens-exposed-requires
+sanitize_tokens-exposed-requires c =
+    readied_known (readied c.args.text.now c.args.slots.now c.lex-read.result c.in-Done.count c.in-Done.stop c.lex-read.new.slots c.in-Done.is c.lex-read.ensures)
+
+pub measure-length-requires : goal.measure-length-requires
+measure-length-requires c =
+    let x = c.args in
+    let r = readied c.args.text.now c.args.slots.now c.lex-read.result c.in-Done.count c.in-Done.stop c.lex-read.new.slots c.in-Done.is c.lex-read.ensures in
+    (r.short, omega (arith, r.count, r.short, tokens_few pinned x.text.now), (cleaned r c.sanitize_tokens-exposed.ensures).places)
+
+pub returns-then-out-length : goal.returns-then-out-length
+returns-then-out-length c =
+    let r = readied c.args.text.now c.args.slots.now c.lex-read.result c.in-Done.count c.in-Done.stop c.lex-read.new.slots c.in-Done.is c.lex-read.ensures in
+    let k = cleaned r c.sanitize_tokens-exposed.ensures in
+    no_room _ _ _ r k _ (measured k _ c.measure-length.ensures) (omega arith)
+
+pub fill-requires-clause-count_bound : goal.fill-requires-clause-count_bound
+fill-requires-clause-count_bound c =
+    let r = readied c.args.text.now c.args.slots.now c.lex-read.result c.in-Done.count c.in-Done.stop c.lex-read.new.slots c.in-Done.is c.lex-read.ensures in
+    let k = cleaned r c.sanitize_tokens-exposed.ensures in
+    (k.places, k.formed)
+
+pub returns-else-out-length : goal.returns-else-out-length
+returns-else-out-length c =
+    let r = readied c.args.text.now c.args.slots.now c.lex-read.result c.in-Done.count c.in-Done.stop c.lex-read.new.slots c.in-Done.is c.lex-read.ensures in
+    let k = cleaned r c.sanitize_tokens-exposed.ensures in
+    shaped _ _ _ r k _ refl refl refl (measured k _ c.measure-length.ensures) (omega arith) (filled k _ _ c.fill.ensures)
+
+pub returns-in-Refused : goal.returns-in-Refused
+returns-in-Refused c =
+    let x = c.args in
+    not_read _ _ _ (subst (λ (r : Lexed). Lexes x.text.now x.slots.now r c.lex-read.new.slots) c.in-Refused.is c.lex-read.ensures)
