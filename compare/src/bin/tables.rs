@@ -28,20 +28,28 @@ fn rt(tables: &[(&str, Vec<u32>)]) {
             println!();
         }
         println!("pub const {}: [u32; {}] = [", name.to_uppercase(), flat.len());
+        // As many on a line as `rt fmt` puts there.
+        let mut line = String::from("   ");
         for number in flat {
-            println!("    {number},");
+            let next = format!(" {number},");
+            if 100 <= line.len() + next.len() {
+                println!("{line}");
+                line = String::from("   ");
+            }
+            line += &next;
         }
+        println!("{line}");
         println!("];");
     }
 }
 
 fn antt(tables: &[(&str, Vec<u32>)]) {
     header("--");
-    println!("-- Assumes nothing.\nuse Prim.Native.Nat.{{ℕ}}\nuse mathlib.Core.List.{{List, [], _∷_}}");
+    println!("-- Assumes nothing.\nuse Rattle.std.specs.Prelude.{{ℕ, List, [], ◌∷◌}}");
     for (name, flat) in tables {
         let numbers: Vec<String> = flat.iter().map(u32::to_string).collect();
         println!("\n-- the {} pairs of char::is_{name}", flat.len() / 2);
-        println!("unfoldable pub {name}Pairs : List ℕ\n{name}Pairs =\n    {} ∷ []", numbers.join(" ∷ "));
+        println!("unfoldable pub {name}_pairs : List ℕ\n{name}_pairs =\n    {} ∷ []", numbers.join(" ∷ "));
     }
 }
 

@@ -1,5 +1,5 @@
 // The program that replays the Rust's answers: one call a line on standard input, its answer on standard output. It makes the call and prints
-// all of the answer; the file `stdout` has the Rust's (tools/replay, docs/COMPARISON.md), and `rt check` compares the two.
+// all of the answer; the file `stdout` has the Rust's (tools/replay, docs/COMPARISON.md), and `rt ci` compares the two.
 //
 // A line is the hexadecimal of these bytes; numbers have four bytes, the highest first.
 //    0  the call: 1 lex, 2 sanitize, 3 write, 4 sanitize_string
