@@ -4,6 +4,9 @@
 //   tables version   rustc's version and char::UNICODE_VERSION
 const RUSTC: &str = env!("RUSTC_VERSION");
 
+// `rt fmt` fills a line of an array to this many bytes at most.
+const WIDTH: usize = 99;
+
 // First and last of each run of scalar values in the class, flat. A run ends at the surrogates.
 fn pairs(class: fn(char) -> bool) -> Vec<u32> {
     let mut flat: Vec<u32> = Vec::new();
@@ -28,20 +31,26 @@ fn rt(tables: &[(&str, Vec<u32>)]) {
             println!();
         }
         println!("pub const {}: [u32; {}] = [", name.to_uppercase(), flat.len());
+        let mut line = String::from("   ");
         for number in flat {
-            println!("    {number},");
+            let next = format!(" {number},");
+            if WIDTH < line.len() + next.len() {
+                println!("{line}");
+                line.truncate(3);
+            }
+            line += &next;
         }
-        println!("];");
+        println!("{line}\n];");
     }
 }
 
 fn antt(tables: &[(&str, Vec<u32>)]) {
     header("--");
-    println!("-- Assumes nothing.\nuse Prim.Native.Nat.{{ℕ}}\nuse mathlib.Core.List.{{List, [], _∷_}}");
+    println!("-- Assumes nothing.\nuse Rattle.std.specs.Prelude.{{ℕ, List, [], ◌∷◌}}");
     for (name, flat) in tables {
         let numbers: Vec<String> = flat.iter().map(u32::to_string).collect();
         println!("\n-- the {} pairs of char::is_{name}", flat.len() / 2);
-        println!("unfoldable pub {name}Pairs : List ℕ\n{name}Pairs =\n    {} ∷ []", numbers.join(" ∷ "));
+        println!("unfoldable pub {name}_pairs : List ℕ\n{name}_pairs =\n    {} ∷ []", numbers.join(" ∷ "));
     }
 }
 
