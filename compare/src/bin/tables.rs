@@ -4,6 +4,9 @@
 //   tables version   rustc's version and char::UNICODE_VERSION
 const RUSTC: &str = env!("RUSTC_VERSION");
 
+// `rt fmt` fills a line of an array to this many bytes at most.
+const WIDTH: usize = 99;
+
 // First and last of each run of scalar values in the class, flat. A run ends at the surrogates.
 fn pairs(class: fn(char) -> bool) -> Vec<u32> {
     let mut flat: Vec<u32> = Vec::new();
@@ -28,18 +31,16 @@ fn rt(tables: &[(&str, Vec<u32>)]) {
             println!();
         }
         println!("pub const {}: [u32; {}] = [", name.to_uppercase(), flat.len());
-        // As many on a line as `rt fmt` puts there.
         let mut line = String::from("   ");
         for number in flat {
             let next = format!(" {number},");
-            if 100 <= line.len() + next.len() {
+            if WIDTH < line.len() + next.len() {
                 println!("{line}");
-                line = String::from("   ");
+                line.truncate(3);
             }
             line += &next;
         }
-        println!("{line}");
-        println!("];");
+        println!("{line}\n];");
     }
 }
 

@@ -4,9 +4,6 @@ use Rattle.chars.specs.Class.{alphabetic}
 use Rattle.chars.proofs.Rule.{alphabetic-meets}
 use Rattle.chars.proofs.class.table_alphabetic.Goals as goal
 
--- NEED? slice-aggregate-lookup
--- slice-aggregate-lookup c = search rules
-
 -- the answer of the search, in the list of specs/
 pub returns : goal.returns
 unfolding alphabetic alphabetic_pairs

@@ -4,9 +4,6 @@ use Rattle.chars.specs.Class.{numeric}
 use Rattle.chars.proofs.Rule.{numeric-meets}
 use Rattle.chars.proofs.class.table_numeric.Goals as goal
 
--- NEED? slice-aggregate-lookup
--- slice-aggregate-lookup c = search rules
-
 -- the answer of the search, in the list of specs/
 pub returns : goal.returns
 unfolding numeric numeric_pairs

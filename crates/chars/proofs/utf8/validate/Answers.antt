@@ -1,7 +1,6 @@
 -- `chars::utf8::validate` meets its contract: bits below 0x80 leave ASCII alone, which is valid. The invariant of the loop: all is valid
 -- before `at`, which is where the blocks end or where a character of the width found ends. Assumes nothing.
 use mathlib.Core.Path.{sym, ap, ◌∙◌}
-use native.Mathlib.Nat.{lt_of_le_of_lt}
 use native.Mathlib.Omega.{arith}
 use borrow.Author.Rules.{rules}
 use Rattle.chars.specs.Steps.{verdict_of}
@@ -15,7 +14,7 @@ any_bits-requires c = search rules
 pub returns-then-any_bits-lt128 : goal.returns-then-any_bits-lt128
 returns-then-any_bits-lt128 c =
     let text = c.args.text.now in
-    ap verdict_of (sym (ascii_valid text (λ k. lt_of_le_of_lt (c.any_bits.ensures k) c.if-any_bits-lt128.true)))
+    ap verdict_of (sym (ascii_valid text (λ k. omega (arith, c.any_bits.ensures k))))
 
 pub settle_blocks-at-requires : goal.settle_blocks-at-requires
 settle_blocks-at-requires c = search rules

@@ -1,10 +1,8 @@
 -- Printed by tools/text-proofs. `tokens::texts::generic` meets its contract: at each kind the padded text computes. The last arm is the one kind that is left.
 -- Assumes nothing.
-use mathlib.Core.Path.{sym, ap}
-use mathlib.Core.List.{[], ◌∷◌}
+use mathlib.Core.Path.{◌≡◌, sym, ap}
 use native.Mathlib.Omega.{arith}
 use Rattle.tokens.specs.Kinds as kind
-use Rattle.tokens.proofs.Arms.{left_over}
 use Rattle.tokens.specs.Texts.{texts, text_of}
 use Rattle.tokens.specs.Fixed.{fixed_of}
 use Rattle.tokens.proofs.texts.generic.Goals as goal
@@ -76,5 +74,5 @@ returns-in-16 c = ap fixed_of (sym c.in-16.is)
 pub returns-in_default : goal.returns-in_default
 unfolding fixed_of text_of texts
 returns-in_default c =
-    let rest = left_over kind.None 17 (kind.False ∷ kind.True ∷ kind.Null ∷ kind.Ellipsis ∷ kind.Placeholder ∷ kind.Semicolon ∷ kind.Colon ∷ kind.SquareBracketClose ∷ kind.SquareBracketOpen ∷ kind.ParentheseClose ∷ kind.ParentheseOpen ∷ kind.Wildcard ∷ kind.Comma ∷ kind.Dot ∷ kind.Newline ∷ kind.Space ∷ []) kind.None tt (omega arith) (omega arith) c.in_default.in_default-own.rest in
-    ap fixed_of (sym rest)
+    let left : c.args.kind ≡ kind.None = omega arith in
+    ap fixed_of (sym left)

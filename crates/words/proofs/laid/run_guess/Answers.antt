@@ -1,5 +1,6 @@
 -- Printed by tools/guesses. `words::laid::run_guess` meets its contract: the numbers of its arms are those of the table, by computation. Assumes nothing.
 use mathlib.Core.Path.{sym, ap}
+use native.Mathlib.Omega.{arith}
 use borrow.Author.Tests.{ne_eqb}
 use Rattle.words.specs.declared.guess.Sort.TheVariants.{Runs}
 use Rattle.words.specs.Known.{guess_of, rows_of, runs, words}
@@ -75,4 +76,4 @@ returns-in-205630 c = ap (guess_of Runs) (sym c.in-205630.is)
 
 pub returns-in_default : goal.returns-in_default
 unfolding guess_of rows_of runs words
-returns-in_default c = rw (ne_eqb _ 0x033c3d c.in_default.in_default-own.rest.0.0.0.0.0.0.0.0.0.0.0.0.0.0.0.0.1, ne_eqb _ 0x023e3d c.in_default.in_default-own.rest.0.0.0.0.0.0.0.0.0.0.0.0.0.0.0.1, ne_eqb _ 0x023c3d c.in_default.in_default-own.rest.0.0.0.0.0.0.0.0.0.0.0.0.0.0.1, ne_eqb _ 0x023d3e c.in_default.in_default-own.rest.0.0.0.0.0.0.0.0.0.0.0.0.0.1, ne_eqb _ 0x023d3c c.in_default.in_default-own.rest.0.0.0.0.0.0.0.0.0.0.0.0.1, ne_eqb _ 0x023c3e c.in_default.in_default-own.rest.0.0.0.0.0.0.0.0.0.0.0.1, ne_eqb _ 0x02213d c.in_default.in_default-own.rest.0.0.0.0.0.0.0.0.0.0.1, ne_eqb _ 0x023d3d c.in_default.in_default-own.rest.0.0.0.0.0.0.0.0.0.1, ne_eqb _ 0x013d00 c.in_default.in_default-own.rest.0.0.0.0.0.0.0.0.1, ne_eqb _ 0x013e00 c.in_default.in_default-own.rest.0.0.0.0.0.0.0.1, ne_eqb _ 0x013c00 c.in_default.in_default-own.rest.0.0.0.0.0.0.1, ne_eqb _ 0x023c3c c.in_default.in_default-own.rest.0.0.0.0.0.1, ne_eqb _ 0x023e3e c.in_default.in_default-own.rest.0.0.0.0.1, ne_eqb _ 0x012600 c.in_default.in_default-own.rest.0.0.0.1, ne_eqb _ 0x017c00 c.in_default.in_default-own.rest.0.0.1, ne_eqb _ 0x02233e c.in_default.in_default-own.rest.0.1, ne_eqb _ 0x03233e c.in_default.in_default-own.rest.1)
+returns-in_default c = rw (ne_eqb c.args.key 0x033c3d (λ e. omega arith), ne_eqb c.args.key 0x023e3d (λ e. omega arith), ne_eqb c.args.key 0x023c3d (λ e. omega arith), ne_eqb c.args.key 0x023d3e (λ e. omega arith), ne_eqb c.args.key 0x023d3c (λ e. omega arith), ne_eqb c.args.key 0x023c3e (λ e. omega arith), ne_eqb c.args.key 0x02213d (λ e. omega arith), ne_eqb c.args.key 0x023d3d (λ e. omega arith), ne_eqb c.args.key 0x013d00 (λ e. omega arith), ne_eqb c.args.key 0x013e00 (λ e. omega arith), ne_eqb c.args.key 0x013c00 (λ e. omega arith), ne_eqb c.args.key 0x023c3c (λ e. omega arith), ne_eqb c.args.key 0x023e3e (λ e. omega arith), ne_eqb c.args.key 0x012600 (λ e. omega arith), ne_eqb c.args.key 0x017c00 (λ e. omega arith), ne_eqb c.args.key 0x02233e (λ e. omega arith), ne_eqb c.args.key 0x03233e (λ e. omega arith))

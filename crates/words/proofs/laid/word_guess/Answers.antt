@@ -1,5 +1,6 @@
 -- Printed by tools/guesses. `words::laid::word_guess` meets its contract: the numbers of its arms are those of the table, by computation. Assumes nothing.
 use mathlib.Core.Path.{sym, ap}
+use native.Mathlib.Omega.{arith}
 use borrow.Author.Tests.{ne_eqb}
 use Rattle.words.specs.declared.guess.Sort.TheVariants.{Words}
 use Rattle.words.specs.Known.{guess_of, rows_of, words}
@@ -155,4 +156,4 @@ returns-in-353889 c = ap (guess_of Words) (sym c.in-353889.is)
 
 pub returns-in_default : goal.returns-in_default
 unfolding guess_of rows_of words
-returns-in_default c = rw (ne_eqb _ 0x02696e c.in_default.in_default-own.rest.0.0.0.0.0.0.0.0.0.0.0.0.0.0.0.0.0.0.0.0.0.0.0.0.0.0.0.0.0.0.0.0.0.0.0.0.1, ne_eqb _ 0x036e6f c.in_default.in_default-own.rest.0.0.0.0.0.0.0.0.0.0.0.0.0.0.0.0.0.0.0.0.0.0.0.0.0.0.0.0.0.0.0.0.0.0.0.1, ne_eqb _ 0x046c69 c.in_default.in_default-own.rest.0.0.0.0.0.0.0.0.0.0.0.0.0.0.0.0.0.0.0.0.0.0.0.0.0.0.0.0.0.0.0.0.0.0.1, ne_eqb _ 0x05696c c.in_default.in_default-own.rest.0.0.0.0.0.0.0.0.0.0.0.0.0.0.0.0.0.0.0.0.0.0.0.0.0.0.0.0.0.0.0.0.0.1, ne_eqb _ 0x05726c c.in_default.in_default-own.rest.0.0.0.0.0.0.0.0.0.0.0.0.0.0.0.0.0.0.0.0.0.0.0.0.0.0.0.0.0.0.0.0.1, ne_eqb _ 0x04676c c.in_default.in_default-own.rest.0.0.0.0.0.0.0.0.0.0.0.0.0.0.0.0.0.0.0.0.0.0.0.0.0.0.0.0.0.0.0.1, ne_eqb _ 0x056d61 c.in_default.in_default-own.rest.0.0.0.0.0.0.0.0.0.0.0.0.0.0.0.0.0.0.0.0.0.0.0.0.0.0.0.0.0.0.1, ne_eqb _ 0x067265 c.in_default.in_default-own.rest.0.0.0.0.0.0.0.0.0.0.0.0.0.0.0.0.0.0.0.0.0.0.0.0.0.0.0.0.0.1, ne_eqb _ 0x047468 c.in_default.in_default-own.rest.0.0.0.0.0.0.0.0.0.0.0.0.0.0.0.0.0.0.0.0.0.0.0.0.0.0.0.0.1, ne_eqb _ 0x04656c c.in_default.in_default-own.rest.0.0.0.0.0.0.0.0.0.0.0.0.0.0.0.0.0.0.0.0.0.0.0.0.0.0.0.1, ne_eqb _ 0x067365 c.in_default.in_default-own.rest.0.0.0.0.0.0.0.0.0.0.0.0.0.0.0.0.0.0.0.0.0.0.0.0.0.0.1, ne_eqb _ 0x046672 c.in_default.in_default-own.rest.0.0.0.0.0.0.0.0.0.0.0.0.0.0.0.0.0.0.0.0.0.0.0.0.0.1, ne_eqb _ 0x057768 c.in_default.in_default-own.rest.0.0.0.0.0.0.0.0.0.0.0.0.0.0.0.0.0.0.0.0.0.0.0.0.1, ne_eqb _ 0x03616e c.in_default.in_default-own.rest.0.0.0.0.0.0.0.0.0.0.0.0.0.0.0.0.0.0.0.0.0.0.0.1, ne_eqb _ 0x026f72 c.in_default.in_default-own.rest.0.0.0.0.0.0.0.0.0.0.0.0.0.0.0.0.0.0.0.0.0.0.1, ne_eqb _ 0x067570 c.in_default.in_default-own.rest.0.0.0.0.0.0.0.0.0.0.0.0.0.0.0.0.0.0.0.0.0.1, ne_eqb _ 0x037365 c.in_default.in_default-own.rest.0.0.0.0.0.0.0.0.0.0.0.0.0.0.0.0.0.0.0.0.1, ne_eqb _ 0x06696e c.in_default.in_default-own.rest.0.0.0.0.0.0.0.0.0.0.0.0.0.0.0.0.0.0.0.1, ne_eqb _ 0x04696e c.in_default.in_default-own.rest.0.0.0.0.0.0.0.0.0.0.0.0.0.0.0.0.0.0.1, ne_eqb _ 0x067661 c.in_default.in_default-own.rest.0.0.0.0.0.0.0.0.0.0.0.0.0.0.0.0.0.1, ne_eqb _ 0x05696e c.in_default.in_default-own.rest.0.0.0.0.0.0.0.0.0.0.0.0.0.0.0.0.1, ne_eqb _ 0x046a6f c.in_default.in_default-own.rest.0.0.0.0.0.0.0.0.0.0.0.0.0.0.0.1, ne_eqb _ 0x026f6e c.in_default.in_default-own.rest.0.0.0.0.0.0.0.0.0.0.0.0.0.0.1, ne_eqb _ 0x056c69 c.in_default.in_default-own.rest.0.0.0.0.0.0.0.0.0.0.0.0.0.1, ne_eqb _ 0x066f66 c.in_default.in_default-own.rest.0.0.0.0.0.0.0.0.0.0.0.0.1, ne_eqb _ 0x076265 c.in_default.in_default-own.rest.0.0.0.0.0.0.0.0.0.0.0.1, ne_eqb _ 0x056172 c.in_default.in_default-own.rest.0.0.0.0.0.0.0.0.0.0.1, ne_eqb _ 0x066269 c.in_default.in_default-own.rest.0.0.0.0.0.0.0.0.0.1, ne_eqb _ 0x046461 c.in_default.in_default-own.rest.0.0.0.0.0.0.0.0.1, ne_eqb _ 0x047469 c.in_default.in_default-own.rest.0.0.0.0.0.0.0.1, ne_eqb _ 0x097469 c.in_default.in_default-own.rest.0.0.0.0.0.0.1, ne_eqb _ 0x017800 c.in_default.in_default-own.rest.0.0.0.0.0.1, ne_eqb _ 0x016200 c.in_default.in_default-own.rest.0.0.0.0.1, ne_eqb _ 0x016e00 c.in_default.in_default-own.rest.0.0.0.1, ne_eqb _ 0x046e75 c.in_default.in_default-own.rest.0.0.1, ne_eqb _ 0x047472 c.in_default.in_default-own.rest.0.1, ne_eqb _ 0x056661 c.in_default.in_default-own.rest.1)
+returns-in_default c = rw (ne_eqb c.args.key 0x02696e (λ e. omega arith), ne_eqb c.args.key 0x036e6f (λ e. omega arith), ne_eqb c.args.key 0x046c69 (λ e. omega arith), ne_eqb c.args.key 0x05696c (λ e. omega arith), ne_eqb c.args.key 0x05726c (λ e. omega arith), ne_eqb c.args.key 0x04676c (λ e. omega arith), ne_eqb c.args.key 0x056d61 (λ e. omega arith), ne_eqb c.args.key 0x067265 (λ e. omega arith), ne_eqb c.args.key 0x047468 (λ e. omega arith), ne_eqb c.args.key 0x04656c (λ e. omega arith), ne_eqb c.args.key 0x067365 (λ e. omega arith), ne_eqb c.args.key 0x046672 (λ e. omega arith), ne_eqb c.args.key 0x057768 (λ e. omega arith), ne_eqb c.args.key 0x03616e (λ e. omega arith), ne_eqb c.args.key 0x026f72 (λ e. omega arith), ne_eqb c.args.key 0x067570 (λ e. omega arith), ne_eqb c.args.key 0x037365 (λ e. omega arith), ne_eqb c.args.key 0x06696e (λ e. omega arith), ne_eqb c.args.key 0x04696e (λ e. omega arith), ne_eqb c.args.key 0x067661 (λ e. omega arith), ne_eqb c.args.key 0x05696e (λ e. omega arith), ne_eqb c.args.key 0x046a6f (λ e. omega arith), ne_eqb c.args.key 0x026f6e (λ e. omega arith), ne_eqb c.args.key 0x056c69 (λ e. omega arith), ne_eqb c.args.key 0x066f66 (λ e. omega arith), ne_eqb c.args.key 0x076265 (λ e. omega arith), ne_eqb c.args.key 0x056172 (λ e. omega arith), ne_eqb c.args.key 0x066269 (λ e. omega arith), ne_eqb c.args.key 0x046461 (λ e. omega arith), ne_eqb c.args.key 0x047469 (λ e. omega arith), ne_eqb c.args.key 0x097469 (λ e. omega arith), ne_eqb c.args.key 0x017800 (λ e. omega arith), ne_eqb c.args.key 0x016200 (λ e. omega arith), ne_eqb c.args.key 0x016e00 (λ e. omega arith), ne_eqb c.args.key 0x046e75 (λ e. omega arith), ne_eqb c.args.key 0x047472 (λ e. omega arith), ne_eqb c.args.key 0x056661 (λ e. omega arith))

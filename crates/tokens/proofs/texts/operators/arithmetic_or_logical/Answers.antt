@@ -1,10 +1,8 @@
 -- Printed by tools/text-proofs. `tokens::texts::operators::arithmetic_or_logical` meets its contract: at each kind the padded text computes. The last arm is the one kind that is left.
 -- Assumes nothing.
-use mathlib.Core.Path.{sym, ap}
-use mathlib.Core.List.{[], ◌∷◌}
+use mathlib.Core.Path.{◌≡◌, sym, ap}
 use native.Mathlib.Omega.{arith}
 use Rattle.tokens.specs.Kinds as kind
-use Rattle.tokens.proofs.Arms.{left_over}
 use Rattle.tokens.specs.Texts.{texts, text_of}
 use Rattle.tokens.specs.Fixed.{fixed_of}
 use Rattle.tokens.proofs.texts.operators.arithmetic_or_logical.Goals as goal
@@ -68,5 +66,5 @@ returns-in-30 c = ap fixed_of (sym c.in-30.is)
 pub returns-in_default : goal.returns-in_default
 unfolding fixed_of text_of texts
 returns-in_default c =
-    let rest = left_over kind.Multiply 15 (kind.Then ∷ kind.Regexp ∷ kind.Match ∷ kind.Glob ∷ kind.Rlike ∷ kind.Ilike ∷ kind.Like ∷ kind.Not ∷ kind.In ∷ kind.Minus ∷ kind.Plus ∷ kind.Modulo ∷ kind.Divide ∷ kind.Multiply ∷ []) kind.Else tt (omega arith) (omega arith) c.in_default.in_default-own.rest in
-    ap fixed_of (sym rest)
+    let left : c.args.kind ≡ kind.Else = omega arith in
+    ap fixed_of (sym left)

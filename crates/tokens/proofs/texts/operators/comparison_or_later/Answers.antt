@@ -1,10 +1,8 @@
 -- Printed by tools/text-proofs. `tokens::texts::operators::comparison_or_later` meets its contract: at each kind the padded text computes. The last arm is the one kind that is left.
 -- Assumes nothing.
-use mathlib.Core.Path.{sym, ap}
-use mathlib.Core.List.{[], ◌∷◌}
+use mathlib.Core.Path.{◌≡◌, sym, ap}
 use native.Mathlib.Omega.{arith}
 use Rattle.tokens.specs.Kinds as kind
-use Rattle.tokens.proofs.Arms.{left_over}
 use Rattle.tokens.specs.Texts.{texts, text_of}
 use Rattle.tokens.specs.Fixed.{fixed_of}
 use Rattle.tokens.proofs.texts.operators.comparison_or_later.Goals as goal
@@ -76,5 +74,5 @@ returns-in-47 c = ap fixed_of (sym c.in-47.is)
 pub returns-in_default : goal.returns-in_default
 unfolding fixed_of text_of texts
 returns-in_default c =
-    let rest = left_over kind.Equal 17 (kind.SpecifiedPath ∷ kind.BitwiseOr ∷ kind.BitwiseAnd ∷ kind.RightShift ∷ kind.LeftShift ∷ kind.LessThan ∷ kind.GreaterThan ∷ kind.NotEqual ∷ kind.EqualWithArrows ∷ kind.EqualOrLessThan ∷ kind.EqualOrGreaterThan ∷ kind.LessThanOrEqual ∷ kind.GreaterThanOrEqual ∷ kind.NullSafeEqual ∷ kind.Equal2 ∷ kind.Equal ∷ []) kind.SpecifiedPathAsText tt (omega arith) (omega arith) c.in_default.in_default-own.rest in
-    ap fixed_of (sym rest)
+    let left : c.args.kind ≡ kind.SpecifiedPathAsText = omega arith in
+    ap fixed_of (sym left)

@@ -1,10 +1,8 @@
 -- Printed by tools/text-proofs. `tokens::texts::words::indicator_or_mark` meets its contract: at each kind the padded text computes. The last arm is the one kind that is left.
 -- Assumes nothing.
-use mathlib.Core.Path.{sym, ap}
-use mathlib.Core.List.{[], ◌∷◌}
+use mathlib.Core.Path.{◌≡◌, sym, ap}
 use native.Mathlib.Omega.{arith}
 use Rattle.tokens.specs.Kinds as kind
-use Rattle.tokens.proofs.Arms.{left_over}
 use Rattle.tokens.specs.Texts.{texts, text_of}
 use Rattle.tokens.specs.Fixed.{fixed_of}
 use Rattle.tokens.proofs.texts.words.indicator_or_mark.Goals as goal
@@ -60,5 +58,5 @@ returns-in-78 c = ap fixed_of (sym c.in-78.is)
 pub returns-in_default : goal.returns-in_default
 unfolding fixed_of text_of texts
 returns-in_default c =
-    let rest = left_over kind.Binary 13 (kind.DoubleQuoted ∷ kind.Backticked ∷ kind.Charset ∷ kind.N ∷ kind.ZeroB ∷ kind.B ∷ kind.ZeroX ∷ kind.X ∷ kind.Timestamp ∷ kind.Time ∷ kind.Date ∷ kind.Binary ∷ []) kind.SingleQuoted tt (omega arith) (omega arith) c.in_default.in_default-own.rest in
-    ap fixed_of (sym rest)
+    let left : c.args.kind ≡ kind.SingleQuoted = omega arith in
+    ap fixed_of (sym left)

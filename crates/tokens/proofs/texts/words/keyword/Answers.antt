@@ -1,10 +1,8 @@
 -- Printed by tools/text-proofs. `tokens::texts::words::keyword` meets its contract: at each kind the padded text computes. The last arm is the one kind that is left.
 -- Assumes nothing.
-use mathlib.Core.Path.{sym, ap}
-use mathlib.Core.List.{[], ◌∷◌}
+use mathlib.Core.Path.{◌≡◌, sym, ap}
 use native.Mathlib.Omega.{arith}
 use Rattle.tokens.specs.Kinds as kind
-use Rattle.tokens.proofs.Arms.{left_over}
 use Rattle.tokens.specs.Texts.{texts, text_of}
 use Rattle.tokens.specs.Fixed.{fixed_of}
 use Rattle.tokens.proofs.texts.words.keyword.Goals as goal
@@ -80,5 +78,5 @@ returns-in-65 c = ap fixed_of (sym c.in-65.is)
 pub returns-in_default : goal.returns-in_default
 unfolding fixed_of text_of texts
 returns-in_default c =
-    let rest = left_over kind.Select 18 (kind.Array ∷ kind.Between ∷ kind.Offset ∷ kind.Limit ∷ kind.On ∷ kind.Join ∷ kind.Inner ∷ kind.Values ∷ kind.Into ∷ kind.Insert ∷ kind.Set ∷ kind.Update ∷ kind.Or ∷ kind.And ∷ kind.Where ∷ kind.From ∷ kind.Select ∷ []) kind.Other tt (omega arith) (omega arith) c.in_default.in_default-own.rest in
-    ap fixed_of (sym rest)
+    let left : c.args.kind ≡ kind.Other = omega arith in
+    ap fixed_of (sym left)
