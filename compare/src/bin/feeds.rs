@@ -218,7 +218,7 @@ impl Feeds {
         self.all("a slow reader, and writes that take a part", run, due, "");
     }
 
-    // The reader goes away after some bytes. The signal that tells a program so is ignored by Rattle's startup code, as by Rust's, whether or not
+    // The reader goes away after some bytes. A program over the standard library's streams ignores the signal that tells of it, whether or not
     // the caller ignores it too: the write fails, and the program ends by itself.
     fn closed(&mut self, path: &str, due: &[u8], count: usize, ignored: bool) {
         let name = format!("a pipe closed after {count} bytes, the signal ignored: {ignored}");

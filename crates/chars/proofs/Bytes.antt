@@ -2,7 +2,7 @@
 -- and_l, and_r            the two halves of a test that passed
 -- follows_range           a following byte is 0x80 to 0xBF
 -- mask_follows            the code's mask tests just that
--- scalar_low, .. -beyond  is_scalar by the four ranges
+-- scalar_low, .. _beyond  is_scalar by the four ranges
 -- width_1 .. width_4      width by its four ranges
 -- Assumes nothing.
 use mathlib.Core.Path.{◌≡◌, refl, ap, ◌∙◌}

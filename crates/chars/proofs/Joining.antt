@@ -1,8 +1,8 @@
 -- Following bytes, joined one by one: what the loop of `sequence` keeps, and the shifts and masks that join.
 -- join_bits                                  the shift, the mask and the or of one turn
 -- drop_at                                    a text from an offset on is its byte there and the rest
--- joined_next, -short, -stray, -more         one following byte more, or none
--- small_start, Joining, joining_more .. -done  the invariant: how it starts, goes on and ends
+-- joined_next, _short, _stray, _more         one following byte more, or none
+-- small_start, Joining, joining_more .. _done  the invariant: how it starts, goes on and ends
 -- answer_none .. answer_no_scalar            the answer from the joined bits
 -- Assumes nothing.
 use mathlib.Core.Path.{◌≡◌, sym, ap, ◌∙◌}

@@ -3,7 +3,7 @@
 -- joined_below       n following bytes add 6 n bits
 -- Ranged, ranged_is  what is known where the joined bits were taken
 -- Read, front_read   a character is a scalar value, in as many bytes as it takes
--- read-back          each scalar value's encoding, with anything after it, is read back
+-- read_back          each scalar value's encoding, with anything after it, is read back
 -- Assumes nothing.
 use mathlib.Core.Path.{◌≡◌, refl, sym, ap, ◌∙◌, subst}
 use mathlib.Core.Bool.{Bool, true, false, cond, ◌&&◌, ◌||◌}

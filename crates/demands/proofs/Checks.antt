@@ -1,7 +1,7 @@
 -- Each check is a row of its table, and checks one after the other are a table. What Demand1.antt rests on.
 -- Check           a check finds nothing where its row never applies, else refuses with the one detail with which it does
 -- follows_end, follows_then   a table from its end on, one check at a time
--- check_long, -valid, -tokens, -count, -form, -cuts, -out   the seven
+-- check_long, _valid, _tokens, _count, _form, _cuts, _out   the seven
 -- Assumes nothing.
 use mathlib.Core.Path.{◌≡◌, refl, sym, ap, subst, ◌∙◌}
 use mathlib.Core.Bool.{Bool, true, false, cond, ◌||◌}

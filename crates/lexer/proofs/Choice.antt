@@ -1,7 +1,7 @@
 -- Which rule reads: the definition's choice by facts of numbers, and what the choice tells of the character.
 -- rule_late      a character that no rule up to 8 takes
--- rule_digit, -capital, -small, -wide   such characters
--- rule_hash, -dash, -slash   where look-ahead decides
+-- rule_digit, _capital, _small, _wide   such characters
+-- rule_hash, _dash, _slash   where look-ahead decides
 -- Tells, rule_tells   a rule up to 8 has an ASCII character, a word an alphabetic, a number a numeric or `-`
 -- stands_is      the look-ahead by a byte is the look-ahead by a character
 -- Assumes nothing.

@@ -1,5 +1,5 @@
 -- Every token that is read is well formed, for any ways to read.
--- plain_not, -known, unknown-not, carries_known   a kind that carries nothing, and Unknown, carry no offsets
+-- plain_not, _known, unknown-not, carries_known   a kind that carries nothing, and Unknown, carry no offsets
 -- fits, Fits, one_fits   what a rule reads carries what its kind may carry
 -- all_formed          each token of a reading is well formed, so the first malformed place is the length
 -- Assumes nothing.

@@ -1,8 +1,8 @@
 -- What each rule reads, as the token and the offset after it that the code answers.
 -- read_at                    what a rule reads at the character that stands there
 -- line_read, block_read, numbered_read, charset_read, single_read, unknown_read   rules 2 to 6, 8 and 11
--- quoted_closed, -open       rule 1
--- run-known, -halt, word-known, -other, number-known, -plain   rules 7, 9 and 10
+-- quoted_closed, _open       rule 1
+-- run-known, _halt, word-known, _other, number-known, _plain   rules 7, 9 and 10
 -- Lead, lead_is              a character that passes a test stands at the offset
 -- number_dash, number_same   where the scan of a number starts
 -- Assumes nothing.

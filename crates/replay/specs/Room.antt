@@ -16,7 +16,7 @@ pub record Lent (text slots out page : List ℕ) : Type 0 where
   pub text_room : 1048577 ≤ length text
   pub slots_room : 1024 ≤ length slots
   pub out_room : 1024 ≤ length out
-  pub page_room_lem : 16384 ≤ length page
+  pub page_room : 16384 ≤ length page
 
 -- what is held of a line is within its room
 abbrev pub Within : Next → ℕ → Type 0

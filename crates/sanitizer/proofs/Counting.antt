@@ -1,5 +1,5 @@
 -- The exposed count one token at a time, and the answers of `sanitize`.
--- exposed_end, -on             the count of the tokens from a place on
+-- exposed_end, _on             the count of the tokens from a place on
 -- one_at_most, value_low       what one token counts for
 -- refuses, accept              the cases of the promise
 -- Assumes nothing.

@@ -1,12 +1,12 @@
 -- The definitions of Scans.antt one token at a time: a premise for each test, which `omega arith` finds at a need.
 -- kind_tokens                        the kind at a place is the one in its slot
 -- before_is, kind_past               the kind before a place, and past the end
--- dotted_before, -after, -not        whether a Dot stands beside a place
+-- dotted_before, _after, -not        whether a Dot stands beside a place
 -- drop-kinds, drop_end               the kinds from a place on
--- close_end, -here, -here', -on      the scan to the close
--- rows_end, -close, -open            the scan of the rows, inside and outside
+-- close_end, _here, _here', _on      the scan to the close
+-- rows_end, _close, _open            the scan of the rows, inside and outside
 -- rows_inside                        inside
--- rows_comma, -space, -stop          outside
+-- rows_comma, _space, _stop          outside
 -- row_ways                            the cases of the rows' scan
 -- close_ge, rows_ge                  a scan's answer is at its place or later
 -- Assumes nothing.

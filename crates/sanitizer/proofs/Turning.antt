@@ -2,12 +2,12 @@
 -- left_put                     what a store of a bare token leaves
 -- left_by                      work on top of work
 -- blank_step, blank_done       blanking one place at a time
--- Leads, leads_start, -more, -done   blanking leads on to what is left to blank
+-- Leads, leads_start, _more, _done   blanking leads on to what is left to blank
 -- left_is                      what is left, by an equal list
 -- before_stored                the kind before a place that was stored to
--- comment_first, -other, -spaced   what removing a comment leaves
+-- comment_first, _other, _spaced   what removing a comment leaves
 -- turned                       a turn, from what its arm does
--- Runs, runs_start, -done, -more   the turns still to take end in the sanitised list
+-- Runs, runs_start, _done, _more   the turns still to take end in the sanitised list
 -- Assumes nothing.
 use mathlib.Core.Path.{◌≡◌, refl, sym, ap, ◌∙◌, subst}
 use mathlib.Core.List.{List}

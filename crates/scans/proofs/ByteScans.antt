@@ -2,10 +2,10 @@
 -- Passes               what such a scan is
 -- scan-bytes           the scan of the bytes is the scan of the characters, counted in bytes
 -- byte_reach           the same, as the offset that is reached
--- byte_on, -off, -end  one turn of a loop over bytes
+-- byte_on, _off, _end  one turn of a loop over bytes
 -- byte_first           up to the first of two bytes, where all others pass and change nothing
 -- quote_passes, block_passes   the scans of rules 1 and 3
--- over_bytes, span_byte_on, -off, -end, -first   the same for a scan by a test
+-- over_bytes, span_byte_on, _off, _end, _first   the same for a scan by a test
 -- line_alike, run_alike   rules 2 and 7
 -- Assumes nothing.
 use mathlib.Core.Path.{◌≡◌, refl, sym, ap, ◌∙◌}

@@ -2,7 +2,7 @@
 -- encoded          how a character is written: one byte below 0x80, or some bytes of which each is at least 0x80
 -- View, view       at an offset a character stands, or none is left
 -- ascii_here       a byte below 0x80 is a character
--- lead_low, -high  the first byte of a character is below 0x80 where the character is
+-- lead_low, _high  the first byte of a character is below 0x80 where the character is
 -- star_step        the byte before is `*` where the character before is
 -- whole-step       past a character the rest of the text is whole again
 -- readable-view    where the rest is whole and not empty a character stands

@@ -1,9 +1,9 @@
 -- The stop rules' tests by facts of numbers: a premise for each range, which `omega arith` finds at a need.
--- numeric_in, -out, alphabetic-in, -out   the two classes below 0x80
+-- numeric_in, _out, alphabetic-in, _out   the two classes below 0x80
 -- goes-numeric, goes-letter               what goes on in a charset, a word, a number by its class
 -- numerics-out, charset_out, word_out, number_out   what goes on in none
 -- mark_in, word_none, number_none       the same for an ASCII character, by what it is or is not
--- by-range, by_one                        a test that is answered says what its two cases say
+-- by_range, by_one                        a test that is answered says what its two cases say
 -- Assumes nothing.
 use mathlib.Core.Path.{◌≡◌, refl, sym, ◌∙◌}
 use mathlib.Core.Bool.{Bool, true, false, or-true}

@@ -1,6 +1,6 @@
 -- The offset that a count of characters reaches.
--- reach_none, -end     no character is left
--- reach_stop, -step    one character: the count ends before it, or goes on after it
+-- reach_none, _end     no character is left
+-- reach_stop, _step    one character: the count ends before it, or goes on after it
 -- reach-le, reach_in   it is not before the start, and within the text
 -- reach_rest           the characters from there on
 -- whole-reach          where the rest was whole it is whole again

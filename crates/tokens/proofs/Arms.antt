@@ -2,7 +2,7 @@
 -- Rest        that, as the check states it: the key of the last arm before it first
 -- and_l, and_r   the two halves of a test that passed
 -- all_from_lem    a test computed over n numbers, at one of them
--- left-over   of n numbers from lo on, all but one are keys: it is that one. One computed test
+-- left_over   of n numbers from lo on, all but one are keys: it is that one. One computed test
 -- Assumes nothing.
 use mathlib.Core.Path.{◌≡◌, refl, sym, ap, ◌∙◌, subst}
 use mathlib.Core.Bool.{Bool, true, false, ◌&&◌, ◌||◌}

@@ -1,6 +1,6 @@
 -- The definitions of Formed.antt by facts of numbers: a premise for each test, which `omega arith` finds at a need.
--- carries_other, -in, -low, -high   carries_offsets by the ranges of the kinds
--- formed_carries, -unknown, -plain, -none   well_formed by the ranges of the kinds
+-- carries_other, _in, _low, _high   carries_offsets by the ranges of the kinds
+-- formed_carries, _unknown, _plain, _none   well_formed by the ranges of the kinds
 -- formed_kind                       a well-formed slot has one of the 84 kinds
 -- Assumes nothing.
 use mathlib.Core.Path.{◌≡◌, sym, ◌∙◌}

@@ -1,7 +1,7 @@
 -- The part of a text by facts of numbers.
--- content-within, -back, -beyond   the three cases of `content`
+-- content-within, _back, _beyond   the three cases of `content`
 -- length-content                   as long as its offsets say
--- handed_within, -back, -beyond    the three slices that the code hands out
+-- handed_within, _back, _beyond    the three slices that the code hands out
 -- Assumes nothing.
 use mathlib.Core.Path.{◌≡◌}
 use mathlib.Core.Bool.{true, false, and-false}

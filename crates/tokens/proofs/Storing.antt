@@ -1,6 +1,6 @@
 -- Slots: reading them off the words, storing one, and laying tokens over the front of a buffer.
 -- length-tokens                     n slots are n tokens
--- tokens_split, -more, -at          the first slots and those after them
+-- tokens_split, _more, -at          the first slots and those after them
 -- get_or-tokens                       a token of the list is the one in its slot
 -- slot_ext                          slots with the same three numbers are the same
 -- slot_stored, slot_other           what a store leaves in its slot and in another

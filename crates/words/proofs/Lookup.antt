@@ -1,6 +1,6 @@
 -- Looking a text up: a guess by its key, confirmed by the row's letters, is the definition's search.
 -- equal_is, equal_self, equal-step   the comparison
--- get_d_part, part_past               one letter of a text, and none past its end
+-- get_or-part, part_past               one letter of a text, and none past its end
 -- guess_row                          a guess names a row of the table
 -- lookup_is                          guess and confirmation are the search
 -- lookup_long                        a text longer than any row is not known
@@ -48,10 +48,10 @@ pub equal_done : (a b : List ℕ) (m : ℕ) → length a ≤ m → length b ≤ 
 equal_done a b m h k = rw (drop_of_length-le a h, drop_of_length-le b k)
 
 -- ---- a part of a text in lower case
-get_d_map : (l : List ℕ) (m : ℕ) → m < length l → get_or (map lower l) m 0 ≡ lower (get_or l m 0)
-get_d_map [] m h = absurd (omega arith)
-get_d_map (x ∷ l) zero h = refl
-get_d_map (x ∷ l) (suc m) h = get_d_map l m (omega arith)
+get_or-lower : (l : List ℕ) (m : ℕ) → m < length l → get_or (map lower l) m 0 ≡ lower (get_or l m 0)
+get_or-lower [] m h = absurd (omega arith)
+get_or-lower (x ∷ l) zero h = refl
+get_or-lower (x ∷ l) (suc m) h = get_or-lower l m (omega arith)
 
 module _ (t : List ℕ) (at n : ℕ) (h : at + n ≤ length t) where
   abbrev pub part : List ℕ
@@ -60,10 +60,10 @@ module _ (t : List ℕ) (at n : ℕ) (h : at + n ≤ length t) where
   pub part_length : length part ≡ n
   part_length = length-map (take n (drop at t)) lower ∙ simp (length-take, length-drop) (omega arith)
 
-  pub get_d_part : (m : ℕ) → m < n → get_or part m 0 ≡ lower (get_or t (at + m) 0)
-  get_d_part m k =
+  pub get_or-part : (m : ℕ) → m < n → get_or part m 0 ≡ lower (get_or t (at + m) 0)
+  get_or-part m k =
       let l : m < length (take n (drop at t)) = simp (length-take, length-drop) (omega arith) in
-      get_d_map (take n (drop at t)) m l ∙ ap lower (get_or-take n (drop at t) m 0 k ∙ get_or-drop at t m 0)
+      get_or-lower (take n (drop at t)) m l ∙ ap lower (get_or-take n (drop at t) m 0 k ∙ get_or-drop at t m 0)
 
   pub part_past : (m : ℕ) → n ≤ m → get_or part m 0 ≡ 0
   part_past m k = get_or-eq_default part 0 (omega (arith, part_length))

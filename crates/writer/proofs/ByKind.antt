@@ -1,6 +1,6 @@
 -- The text of a token by its kind: a premise for each test, which `omega arith` finds at a need.
 -- quoted_in, quoted_low, quoted_high   is_quoted by the ranges of the kinds
--- text_quoted, -charset, -other, -slice, -unknown, -fixed   token_text by the kind
+-- text_quoted, _charset, _other, _slice, _unknown, _fixed   token_text by the kind
 -- len_unknown       the length of an Unknown's text
 -- below_or          one number is below another, or not
 -- content_small, token_small   how long a slice and a token's text can be

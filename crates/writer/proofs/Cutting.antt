@@ -1,6 +1,6 @@
 -- Cut characters by facts of numbers.
 -- inside_past                     past the text's end no offset falls inside a character
--- cuts_kind, -back, -beyond, -start, -end   `cuts` by its tests
+-- cuts_kind, _back, _beyond, _start, _end   `cuts` by its tests
 -- Assumes nothing.
 use mathlib.Core.Path.{◌≡◌}
 use mathlib.Core.Bool.{true, false, and-false}

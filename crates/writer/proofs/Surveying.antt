@@ -2,7 +2,7 @@
 -- get_or-digits       the table at a kind
 -- beside_past, beside_small   a kind past SingleQuoted has nothing beside its slice; no kind has much
 -- len_carries, len_fixed   the length of a token's text by what stands beside its slice
--- faulty_first, -second, -carries, -bare   `faulty` by the kind
+-- faulty_first, _second, _carries, -bare   `faulty` by the kind
 -- or-le, or_same    the first place that passes one of two tests
 -- faulty_none, faulty-cuts   no token is faulty; none is malformed
 -- Assumes nothing.

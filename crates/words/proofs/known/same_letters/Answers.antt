@@ -9,7 +9,7 @@ use mathlib.Core.Bool.{◌&&◌}
 use lib.ListN.{length, get_or, take, drop, length-take, length-drop}
 use lib.Seq.{get_or-take, get_or-drop}
 use Rattle.words.specs.Known.{lower, equal, letters}
-use Rattle.words.proofs.Lookup.{part_length, get_d_part, equal-step, equal_done}
+use Rattle.words.proofs.Lookup.{part_length, get_or-part, equal-step, equal_done}
 use Rattle.words.proofs.Long.{letters_long}
 use Rattle.words.proofs.known.same_letters.Goals as goal
 
@@ -32,7 +32,7 @@ turn text at start count m r h i j g e =
     let t = take count (drop start letters) in
     e
     ∙ equal-step w t m (omega (arith, part_length text at count j)) (omega (arith, row-length start count i))
-    ∙ rw (get_d_part text at count j m h, row_letter start count m h, g)
+    ∙ rw (get_or-part text at count j m h, row_letter start count m h, g)
 
 pub loop-m-init : goal.loop-m-init
 loop-m-init c = (omega arith, refl)
