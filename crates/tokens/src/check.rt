@@ -9,6 +9,7 @@ use crate::slot::whole_slots;
 use chars::utf8::validate;
 
 // 1 TextTooLong, then 2 NotUtf8.
+#[tactic(auto, unfolding(crate::specs::Checks::check_text))]
 pub fn check_text(text: &[u8]) -> Result<(), Refusal>
     ensures { checked result ≡ check_text text.now }
 {
@@ -21,6 +22,7 @@ pub fn check_text(text: &[u8]) -> Result<(), Refusal>
 }
 
 // 4 BadCount.
+#[tactic(auto, unfolding(crate::specs::Checks::check_count))]
 pub fn check_count(slots: &[u32], count: usize) -> Result<(), Refusal>
     ensures { checked result ≡ check_count slots.now count }
 {
