@@ -1,4 +1,5 @@
 pub mod Kinds
+pub mod Named
 pub mod Slots
 pub mod Formed
 pub mod Content

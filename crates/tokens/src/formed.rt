@@ -3,17 +3,29 @@ ghost use Rattle.std.specs.Prelude.{◌≡◌, ◌≤◌};
 ghost use Rattle.tokens.specs.Slots.{room, tokens_in};
 ghost use Rattle.tokens.specs.Formed.{carries_offsets, well_formed, malformed, first_place, place_below};
 
-use crate::kind;
+use crate::kind::Kind;
 use crate::place::Place;
 use crate::slot::{Slot, slot_at};
+
+// The numbers between which the kinds differ in what they may carry.
+const NONE: u32 = Kind::None as u32;
+
+const OTHER: u32 = Kind::Other as u32;
+
+const N: u32 = Kind::N as u32;
+
+const CHARSET: u32 = Kind::Charset as u32;
+
+const NUMBERED_PLACEHOLDER: u32 = Kind::NumberedPlaceholder as u32;
+
+const UNKNOWN: u32 = Kind::Unknown as u32;
 
 // Whether a kind carries a start and an end offset.
 pub fn carries_offsets(kind: u32) -> bool
     ensures { result ≡ carries_offsets kind }
 {
     match kind {
-        kind::OTHER => true,
-        kind::CHARSET..=kind::NUMBERED_PLACEHOLDER => true,
+        OTHER | CHARSET..=NUMBERED_PLACEHOLDER => true,
         _ => false,
     }
 }
@@ -22,12 +34,10 @@ pub fn carries_offsets(kind: u32) -> bool
 pub fn is_well_formed(slot: Slot) -> bool
     ensures { result ≡ well_formed slot }
 {
-    let kind = slot.kind;
-    match kind {
-        kind::OTHER => true,
-        kind::CHARSET..=kind::NUMBERED_PLACEHOLDER => true,
-        kind::UNKNOWN => chars::utf8::is_scalar(slot.first) && slot.second == 0,
-        kind::NONE..=kind::N => slot.first == 0 && slot.second == 0,
+    match slot.kind {
+        OTHER | CHARSET..=NUMBERED_PLACEHOLDER => true,
+        UNKNOWN => chars::utf8::is_scalar(slot.first) && slot.second == 0,
+        NONE..=N => slot.first == 0 && slot.second == 0,
         _ => false,
     }
 }

@@ -1,12 +1,15 @@
 // Token slots: three words a token, from the front of a lent buffer. Words left over behind the whole slots are never touched.
 // Only this file knows how many words a slot is; which word is which, only `slot_at` and `put`.
 ghost use Rattle.std.specs.Prelude.{◌≡◌, ◌<◌};
+ghost use Rattle.tokens.specs.Named.{number};
 ghost use Rattle.tokens.specs.Slots.{bare, room, slot_at, stored};
 
+use crate::kind::Kind;
 use crate::place::Place;
 
-// A token: its kind, and the two numbers that it carries.
-#[derive(Clone, Copy)]
+// A token as a slot holds it: its kind's number, and the two numbers that it carries. A lent slot may hold any number for a kind.
+// Stays: the kind is a number here, since C lends slots as words, and `well_formed` is asked of slots that hold any.
+#[derive(Clone, Copy, PartialEq, Eq, Debug)]
 pub struct Slot {
     pub kind: u32,
     pub first: u32,
@@ -17,11 +20,11 @@ pub struct Slot {
 const WORDS: usize = 3;
 
 // A token that carries nothing.
-pub fn bare(kind: u32) -> Slot
-    ensures { result ≡ bare kind }
+pub fn bare(kind: Kind) -> Slot
+    ensures { result ≡ bare (number kind) }
 {
     Slot {
-        kind,
+        kind: u32::from(kind),
         first: 0,
         second: 0,
     }

@@ -7,8 +7,8 @@ use Rattle.tokens.proofs.formed.carries_offsets.Goals as goal
 pub returns-in-66 : goal.returns-in-66
 returns-in-66 c = sym (carries_other _ (omega arith))
 
-pub returns-in-76-to-82 : goal.returns-in-76-to-82
-returns-in-76-to-82 c = sym (carries_in _ (omega arith) (omega arith))
+pub returns-in-66-2 : goal.returns-in-66-2
+returns-in-66-2 c = sym (carries_in _ (omega arith) (omega arith))
 
 pub returns-in_default : goal.returns-in_default
 returns-in_default c = sym (carries_low _ (omega arith) (omega arith))

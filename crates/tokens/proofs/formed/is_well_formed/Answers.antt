@@ -26,8 +26,8 @@ returns-else-slot-eq0 c =
     let slot = c.args.slot in
     rw (formed_plain slot (omega arith) (omega arith), ne_eqb slot.first 0 c.if-slot-eq0.false)
 
-pub returns-in-76-to-82 : goal.returns-in-76-to-82
-returns-in-76-to-82 c = sym (formed_carries c.args.slot (carries_in _ (omega arith) (omega arith)))
+pub returns-in-66-2 : goal.returns-in-66-2
+returns-in-66-2 c = sym (formed_carries c.args.slot (carries_in _ (omega arith) (omega arith)))
 
 pub returns-in_default : goal.returns-in_default
 returns-in_default c = sym (formed_none c.args.slot (omega arith))
