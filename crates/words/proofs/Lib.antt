@@ -1,4 +1,3 @@
 pub mod Examples
-pub mod Long
 pub mod Lookup
 pub mod Written

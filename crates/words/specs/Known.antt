@@ -1,6 +1,6 @@
 -- The texts that have a kind of their own: 37 words, seventeen runs, and the beginnings of hexadecimal and binary numbers.
 -- Assumes nothing.
-use Rattle.std.specs.Prelude.{ℕ, ◌+◌, ◌*◌, Bool, true, false, cond, ◌&&◌, List, [], ◌∷◌, ◌++◌, map, eqb, leb, length, get_or, take, replicate}
+use Rattle.std.specs.Prelude.{ℕ, ◌+◌, ◌*◌, Bool, true, false, cond, ◌&&◌, Option, None, Some, List, [], ◌∷◌, ◌++◌, map, eqb, leb, length, get_or, take, replicate}
 use Rattle.tokens.specs.Kinds as kind
 use Rattle.tokens.specs.Texts.{Row, row}
 use Rattle.words.specs.declared.guess.Sort.{Sort}
@@ -105,6 +105,10 @@ rows_of Zeros = zeros
 unfoldable pub known_kind : Sort → List ℕ → ℕ
 known_kind sort text = find (rows_of sort) (map lower text)
 
+-- as the code answers a kind: nothing where there is none
+abbrev pub found : ℕ → Option ℕ
+found k = cond (eqb k kind.None) None (Some k)
+
 -- all rows, in the order in which the code has them
 unfoldable pub known : List Row
 known = words ++ runs ++ zeros
@@ -131,10 +135,10 @@ abbrev pub key_of : List ℕ → ℕ
 key_of text = length text * 0x10000 + get_or text 0 0 * 0x100 + get_or text 1 0
 
 -- the row whose text has the key, where the letters of the rows start at i: its start, its length and its kind
-abbrev pub guess_in : ℕ → List Row → ℕ → Guess
-guess_in i [] key = record { 0 = 0; 1 = 0; 2 = kind.None }
+abbrev pub guess_in : ℕ → List Row → ℕ → Option Guess
+guess_in i [] key = None
 guess_in i (r ∷ rs) key =
-    cond (eqb key (key_of r.text)) (record { 0 = i; 1 = length r.text; 2 = r.kind }) (guess_in (i + length r.text) rs key)
+    cond (eqb key (key_of r.text)) (Some (record { start = i; count = length r.text; kind = r.kind })) (guess_in (i + length r.text) rs key)
 
 -- the parts stand in the order of their names
 abbrev pub first_letter : Sort → ℕ
@@ -143,5 +147,5 @@ first_letter Runs = length (laid_out words)
 first_letter Zeros = length (laid_out words) + length (laid_out runs)
 
 -- the row of a part whose text has the key
-unfoldable pub guess_of : Sort → ℕ → Guess
+unfoldable pub guess_of : Sort → ℕ → Option Guess
 guess_of sort key = guess_in (first_letter sort) (rows_of sort) key
