@@ -1,11 +1,11 @@
 -- The texts that have a kind of their own: 37 words, seventeen runs, and the beginnings of hexadecimal and binary numbers.
 -- Assumes nothing.
-use Rattle.std.specs.Prelude.{ℕ, ◌+◌, ◌*◌, Bool, true, false, cond, ◌&&◌, Option, None, Some, List, [], ◌∷◌, ◌++◌, map, eqb, leb, length, get_or, take, replicate}
+use Rattle.std.specs.Prelude.{ℕ, ◌+◌, ◌*◌, Bool, true, false, cond, ◌&&◌, Option, None, Some, List, [], ◌∷◌, ◌++◌, map, eqb, leb, length, get_or}
 use Rattle.tokens.specs.Kinds as kind
+use Rattle.tokens.specs.Named.{number}
 use Rattle.tokens.specs.Texts.{Row, row}
 use Rattle.words.specs.declared.guess.Sort.{Sort}
 use Rattle.words.specs.declared.guess.Sort.TheVariants.{Words, Runs, Zeros}
-use Rattle.words.specs.declared.guess.Guess.{Guess}
 use Rattle.words.specs.declared.table.Known.{Known}
 
 -- an ASCII capital in lower case
@@ -105,47 +105,24 @@ rows_of Zeros = zeros
 unfoldable pub known_kind : Sort → List ℕ → ℕ
 known_kind sort text = find (rows_of sort) (map lower text)
 
--- as the code answers a kind: nothing where there is none
-abbrev pub found : ℕ → Option ℕ
-found k = cond (eqb k kind.None) None (Some k)
-
 -- all rows, in the order in which the code has them
 unfoldable pub known : List Row
 known = words ++ runs ++ zeros
 
 -- ---- how the code keeps the table
--- a row with its text padded
-abbrev pub padded : Row → Known
-padded r = record { 0 = take 9 (r.text ++ replicate 9 32); 1 = r.kind }
-
--- as src/table.rt has it
-unfoldable pub known_texts : List Known
-known_texts = map padded known
-
--- the letters of all rows, one after the other
-abbrev pub laid_out : List Row → List ℕ
-laid_out [] = []
-laid_out (r ∷ rs) = r.text ++ laid_out rs
-
-unfoldable pub letters : List ℕ
-letters = laid_out known
+-- a row of the code, as a row of the definition
+abbrev pub as_row : Known → Row
+as_row k = record { text = k.text.now; kind = number k.kind }
 
 -- the length of a text and its first two letters, as one number
 abbrev pub key_of : List ℕ → ℕ
 key_of text = length text * 0x10000 + get_or text 0 0 * 0x100 + get_or text 1 0
 
--- the row whose text has the key, where the letters of the rows start at i: its start, its length and its kind
-abbrev pub guess_in : ℕ → List Row → ℕ → Option Guess
-guess_in i [] key = None
-guess_in i (r ∷ rs) key =
-    cond (eqb key (key_of r.text)) (Some (record { start = i; count = length r.text; kind = r.kind })) (guess_in (i + length r.text) rs key)
-
--- the parts stand in the order of their names
-abbrev pub first_letter : Sort → ℕ
-first_letter Words = 0
-first_letter Runs = length (laid_out words)
-first_letter Zeros = length (laid_out words) + length (laid_out runs)
+-- the first row whose text has the key
+abbrev pub keyed : List Row → ℕ → Option Row
+keyed [] key = None
+keyed (r ∷ rs) key = cond (eqb key (key_of r.text)) (Some r) (keyed rs key)
 
 -- the row of a part whose text has the key
-unfoldable pub guess_of : Sort → ℕ → Option Guess
-guess_of sort key = guess_in (first_letter sort) (rows_of sort) key
+unfoldable pub guess_of : Sort → ℕ → Option Row
+guess_of sort key = keyed (rows_of sort) key

@@ -1,8 +1,10 @@
 // Which row of the table of known texts a text can only be, by its length and its first two letters.
-ghost use Rattle.std.specs.Prelude.{◌≡◌, ◌+◌, ◌≤◌, length, take, drop};
-ghost use Rattle.words.specs.Known.{letters, guess_of};
+ghost use Rattle.std.specs.Prelude.{◌≡◌};
+ghost use Rattle.std.specs.Option.{option_map};
+ghost use Rattle.words.specs.Known.{as_row, guess_of};
 
-use crate::laid::{LETTERS, run_guess, word_guess, zero_guess};
+use crate::laid::{run_guess, word_guess, zero_guess};
+use crate::table::Known;
 
 // Which rows: 37 words, seventeen runs, the beginnings of hexadecimal and binary numbers.
 #[derive(Clone, Copy)]
@@ -12,34 +14,9 @@ pub enum Sort {
     Zeros,
 }
 
-// The row that a text can only be: where its letters start, how many they are, and its kind.
-#[derive(Clone, Copy)]
-pub struct Guess {
-    pub start: usize,
-    pub count: usize,
-    pub kind: u32,
-}
-
-impl Guess {
-    pub fn new(start: usize, count: usize, kind: u32) -> Guess
-        ensures { result ≡ record { start = start; count = count; kind = kind } }
-    {
-        Guess { start, count, kind }
-    }
-
-    // Its letters in the table.
-    #[tactic(auto, unfolding(crate::specs::Known::letters, crate::specs::Known::known, crate::specs::Known::words, crate::specs::Known::runs, crate::specs::Known::zeros))]
-    pub fn letters(self) -> &'static [u8]
-        requires { self.start + self.count ≤ length letters }
-        ensures { result.now ≡ take self.count (drop self.start letters) }
-    {
-        &LETTERS[self.start..self.start + self.count]
-    }
-}
-
-// By the numbers that tools/guesses prints; None where no row has the key.
-pub fn guess_row(sort: Sort, key: u32) -> Option<Guess>
-    ensures { result ≡ guess_of sort key }
+// By the keys that tools/guesses prints; None where no row has the key.
+pub fn guess_row(sort: Sort, key: u32) -> Option<Known>
+    ensures { option_map as_row result ≡ guess_of sort key }
 {
     match sort {
         Sort::Words => word_guess(key),

@@ -1,9 +1,11 @@
 // The lookup in the table of known texts: a guess by the length and the first two letters names the one row that the text can be, and the row's
-// letters confirm it.
+// text confirms it.
 ghost use Rattle.std.specs.Prelude.{◌≡◌, map, ◌≤◌, length, get_or};
-ghost use Rattle.words.specs.Known.{lower, key_of, known_kind, found};
+ghost use Rattle.tokens.specs.Named.{Finds};
+ghost use Rattle.words.specs.Known.{lower, key_of, known_kind};
 
 use crate::guess::{Sort, guess_row};
+use tokens::kind::Kind;
 
 // How many letters the longest row has.
 const LONGEST: usize = 9;
@@ -24,20 +26,20 @@ fn key_of(text: &[u8]) -> u32
 }
 
 // The kind of a known text; None where it is none.
-pub fn known_kind(sort: Sort, text: &[u8]) -> Option<u32>
-    ensures { result ≡ found (known_kind sort text.now) }
+pub fn known_kind(sort: Sort, text: &[u8]) -> Option<Kind>
+    ensures { Finds (known_kind sort text.now) result }
 {
     if LONGEST < text.len() {
         return None;
     }
     let guess = guess_row(sort, key_of(text))?;
-    text.eq_ignore_ascii_case(guess.letters())
+    text.eq_ignore_ascii_case(guess.text)
         .then_some(guess.kind)
 }
 
 // Rule 10: the kind of the beginning of a number. Most numbers are none by their first byte.
-pub fn zero_kind(text: &[u8]) -> Option<u32>
-    ensures { result ≡ found (known_kind Sort.Zeros text.now) }
+pub fn zero_kind(text: &[u8]) -> Option<Kind>
+    ensures { Finds (known_kind Sort.Zeros text.now) result }
 {
     if !text.starts_with(b"0") {
         return None;

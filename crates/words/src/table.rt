@@ -1,79 +1,83 @@
 // The table of known texts: each fixed byte string beside its kind. Nothing reads it at run time: tools/guesses prints from it what the lookup runs on,
 // laid.rt, and both are proved to be the definition's table (specs/Known.antt). A new row goes into both tables, and laid.rt is printed anew.
-ghost use Rattle.std.specs.Prelude.{◌≡◌};
-ghost use Rattle.words.specs.Known.{known_texts};
+ghost use Rattle.std.specs.Prelude.{◌≡◌, map};
+ghost use Rattle.words.specs.Known.{as_row, known};
 
-use tokens::kind;
+use tokens::kind::Kind;
 
-// A text of up to nine bytes, with blanks after it, and its kind.
+// A known text and its kind.
 #[derive(Clone, Copy)]
-pub struct Known(pub [u8; 9], pub u32);
+pub struct Known {
+    pub text: &'static [u8],
+    pub kind: Kind,
+}
 
-pub const KNOWN: [Known; 56] = [
+pub static KNOWN: [Known; 56] = [
     // Rule 9: the words.
-    Known(*b"in       ", kind::IN),
-    Known(*b"not      ", kind::NOT),
-    Known(*b"like     ", kind::LIKE),
-    Known(*b"ilike    ", kind::ILIKE),
-    Known(*b"rlike    ", kind::RLIKE),
-    Known(*b"glob     ", kind::GLOB),
-    Known(*b"match    ", kind::MATCH),
-    Known(*b"regexp   ", kind::REGEXP),
-    Known(*b"then     ", kind::THEN),
-    Known(*b"else     ", kind::ELSE),
-    Known(*b"select   ", kind::SELECT),
-    Known(*b"from     ", kind::FROM),
-    Known(*b"where    ", kind::WHERE),
-    Known(*b"and      ", kind::AND),
-    Known(*b"or       ", kind::OR),
-    Known(*b"update   ", kind::UPDATE),
-    Known(*b"set      ", kind::SET),
-    Known(*b"insert   ", kind::INSERT),
-    Known(*b"into     ", kind::INTO),
-    Known(*b"values   ", kind::VALUES),
-    Known(*b"inner    ", kind::INNER),
-    Known(*b"join     ", kind::JOIN),
-    Known(*b"on       ", kind::ON),
-    Known(*b"limit    ", kind::LIMIT),
-    Known(*b"offset   ", kind::OFFSET),
-    Known(*b"between  ", kind::BETWEEN),
-    Known(*b"array    ", kind::ARRAY),
-    Known(*b"binary   ", kind::BINARY),
-    Known(*b"date     ", kind::DATE),
-    Known(*b"time     ", kind::TIME),
-    Known(*b"timestamp", kind::TIMESTAMP),
-    Known(*b"x        ", kind::X),
-    Known(*b"b        ", kind::B),
-    Known(*b"n        ", kind::N),
-    Known(*b"null     ", kind::NULL),
-    Known(*b"true     ", kind::TRUE),
-    Known(*b"false    ", kind::FALSE),
+    Known { text: b"in", kind: Kind::In },
+    Known { text: b"not", kind: Kind::Not },
+    Known { text: b"like", kind: Kind::Like },
+    Known { text: b"ilike", kind: Kind::Ilike },
+    Known { text: b"rlike", kind: Kind::Rlike },
+    Known { text: b"glob", kind: Kind::Glob },
+    Known { text: b"match", kind: Kind::Match },
+    Known { text: b"regexp", kind: Kind::Regexp },
+    Known { text: b"then", kind: Kind::Then },
+    Known { text: b"else", kind: Kind::Else },
+    Known { text: b"select", kind: Kind::Select },
+    Known { text: b"from", kind: Kind::From },
+    Known { text: b"where", kind: Kind::Where },
+    Known { text: b"and", kind: Kind::And },
+    Known { text: b"or", kind: Kind::Or },
+    Known { text: b"update", kind: Kind::Update },
+    Known { text: b"set", kind: Kind::Set },
+    Known { text: b"insert", kind: Kind::Insert },
+    Known { text: b"into", kind: Kind::Into },
+    Known { text: b"values", kind: Kind::Values },
+    Known { text: b"inner", kind: Kind::Inner },
+    Known { text: b"join", kind: Kind::Join },
+    Known { text: b"on", kind: Kind::On },
+    Known { text: b"limit", kind: Kind::Limit },
+    Known { text: b"offset", kind: Kind::Offset },
+    Known { text: b"between", kind: Kind::Between },
+    Known { text: b"array", kind: Kind::Array },
+    Known { text: b"binary", kind: Kind::Binary },
+    Known { text: b"date", kind: Kind::Date },
+    Known { text: b"time", kind: Kind::Time },
+    Known { text: b"timestamp", kind: Kind::Timestamp },
+    Known { text: b"x", kind: Kind::X },
+    Known { text: b"b", kind: Kind::B },
+    Known { text: b"n", kind: Kind::N },
+    Known { text: b"null", kind: Kind::Null },
+    Known { text: b"true", kind: Kind::True },
+    Known { text: b"false", kind: Kind::False },
     // Rule 7: the runs.
-    Known(*b"<=>      ", kind::NULL_SAFE_EQUAL),
-    Known(*b">=       ", kind::GREATER_THAN_OR_EQUAL),
-    Known(*b"<=       ", kind::LESS_THAN_OR_EQUAL),
-    Known(*b"=>       ", kind::EQUAL_OR_GREATER_THAN),
-    Known(*b"=<       ", kind::EQUAL_OR_LESS_THAN),
-    Known(*b"<>       ", kind::EQUAL_WITH_ARROWS),
-    Known(*b"!=       ", kind::NOT_EQUAL),
-    Known(*b"==       ", kind::EQUAL2),
-    Known(*b"=        ", kind::EQUAL),
-    Known(*b">        ", kind::GREATER_THAN),
-    Known(*b"<        ", kind::LESS_THAN),
-    Known(*b"<<       ", kind::LEFT_SHIFT),
-    Known(*b">>       ", kind::RIGHT_SHIFT),
-    Known(*b"&        ", kind::BITWISE_AND),
-    Known(*b"|        ", kind::BITWISE_OR),
-    Known(*b"#>       ", kind::SPECIFIED_PATH),
-    Known(*b"#>>      ", kind::SPECIFIED_PATH_AS_TEXT),
+    Known { text: b"<=>", kind: Kind::NullSafeEqual },
+    Known { text: b">=", kind: Kind::GreaterThanOrEqual },
+    Known { text: b"<=", kind: Kind::LessThanOrEqual },
+    Known { text: b"=>", kind: Kind::EqualOrGreaterThan },
+    Known { text: b"=<", kind: Kind::EqualOrLessThan },
+    Known { text: b"<>", kind: Kind::EqualWithArrows },
+    Known { text: b"!=", kind: Kind::NotEqual },
+    Known { text: b"==", kind: Kind::Equal2 },
+    Known { text: b"=", kind: Kind::Equal },
+    Known { text: b">", kind: Kind::GreaterThan },
+    Known { text: b"<", kind: Kind::LessThan },
+    Known { text: b"<<", kind: Kind::LeftShift },
+    Known { text: b">>", kind: Kind::RightShift },
+    Known { text: b"&", kind: Kind::BitwiseAnd },
+    Known { text: b"|", kind: Kind::BitwiseOr },
+    Known { text: b"#>", kind: Kind::SpecifiedPath },
+    Known { text: b"#>>", kind: Kind::SpecifiedPathAsText },
     // Rule 10: the beginnings of numbers.
-    Known(*b"0x       ", kind::ZERO_X),
-    Known(*b"0b       ", kind::ZERO_B),
+    Known { text: b"0x", kind: Kind::ZeroX },
+    Known { text: b"0b", kind: Kind::ZeroB },
 ];
 
 // The table, which the proof holds to the definition's.
+#[tactic(auto, unfolding(crate::specs::Known::known, crate::specs::Known::words, crate::specs::Known::runs, crate::specs::Known::zeros))]
 pub fn known_texts() -> [Known; 56]
-    ensures { result ≡ known_texts }
+    ensures { map as_row result ≡ known }
 {
     KNOWN
 }
