@@ -17,6 +17,7 @@ use borrow.Author.Tests.{ne_eqb, eqb-true}
 use Rattle.chars.specs.Utf8.{chars}
 use Rattle.chars.specs.Class.{numeric}
 use Rattle.chars.proofs.Bytes.{and_l}
+use Rattle.tokens.specs.declared.kind.Kind.TheVariants as the
 use Rattle.lexer.specs.declared.rule.State.{State}
 use Rattle.lexer.specs.declared.rule.Rule.{Rule}
 use Rattle.lexer.specs.declared.rule.Rule.TheVariants.{Quoted, Line, Block, Single, Numbered, Run, Charset, Word, Number, Unknown}
@@ -167,7 +168,7 @@ module _ (state : State) (cs : List ℕ) where
   unfolding rule_of
   rule_dash = rw (alphabetic_out 45 (omega arith) (λ p q. omega arith) (λ p q. omega arith)) (go (head_is (λ d. eqb d 45) cs) (head_is numeric cs))
     where
-      go : (a b : Bool) → cond a Line (cond b Number (Single 21)) ≡ cond a Line (cond (not b) (Single 21) Number)
+      go : (a b : Bool) → cond a Line (cond b Number (Single the.Minus)) ≡ cond a Line (cond (not b) (Single the.Minus) Number)
       go true b = refl
       go false true = refl
       go false false = refl

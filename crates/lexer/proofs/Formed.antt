@@ -15,6 +15,7 @@ use Rattle.chars.specs.Utf8.{chars, width, is_scalar, all_scalars}
 use Rattle.chars.proofs.Bytes.{and_l, and_r}
 use Rattle.chars.proofs.Rfc.{chars_scalars}
 use Rattle.tokens.specs.Kinds as kind
+use Rattle.tokens.specs.Named as named
 use Rattle.tokens.specs.Texts.{Row}
 use Rattle.tokens.specs.Formed.{carries_offsets, well_formed, malformed, first_place}
 use Rattle.tokens.specs.declared.slot.Slot.{Slot}
@@ -101,10 +102,10 @@ known_fits k n other p q = fits_cond (eqb k kind.None) other (took k nothing n) 
 
 -- the kinds that a rule knows
 abbrev kind_of : Rule → Bool
-kind_of (Quoted k) = carries_offsets k
+kind_of (Quoted k) = carries_offsets (named.number k)
 kind_of Line = true
 kind_of Block = true
-kind_of (Single k) = plain k
+kind_of (Single k) = plain (named.number k)
 kind_of Numbered = true
 kind_of Run = true
 kind_of Charset = true
@@ -112,7 +113,7 @@ kind_of Word = true
 kind_of Number = true
 kind_of Unknown = true
 
-star_plain : (st : State) → plain (star_kind st) ≡ true
+star_plain : (st : State) → plain (named.number (star_kind st)) ≡ true
 unfolding plain carries_offsets
 star_plain Default = refl
 star_plain PastSelect = refl

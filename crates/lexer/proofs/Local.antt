@@ -21,6 +21,8 @@ use lib.Seq.{take-append-le, take-append_seam, drop-append-le, drop-append_seam}
 use Rattle.tokens.specs.Kinds as kind
 use Rattle.scans.specs.declared.goes.Stop.TheVariants as stop
 use Rattle.words.specs.declared.guess.Sort.TheVariants as sort
+use Rattle.tokens.specs.Named as named
+use Rattle.tokens.specs.declared.kind.Kind.{Kind}
 use Rattle.lexer.specs.declared.rule.State.{State}
 use Rattle.lexer.specs.declared.rule.Rule.{Rule}
 use Rattle.lexer.specs.declared.rule.Rule.TheVariants.{Quoted, Line, Block, Single, Numbered, Run, Charset, Word, Number, Unknown}
@@ -231,7 +233,10 @@ unfolding pieces
 over w [] c ys b st = refl
 over w (x ∷ xs) c ys b st = over w xs c ys (eqb x 42) st
 
-module _ (w : Ways) (k q : ℕ) (isQuote : (st : State) (cs : List ℕ) → rule_of w st q cs ≡ Quoted k) (rs : List ℕ) where
+module _ (w : Ways) (kind : Kind) (q : ℕ) (isQuote : (st : State) (cs : List ℕ) → rule_of w st q cs ≡ Quoted kind) (rs : List ℕ) where
+  abbrev pub k : ℕ
+  k = named.number kind
+
   pub quoted_pieces : (xs : List ℕ) → quote_len q (xs ++ q ∷ rs) ≡ length xs → (b : Bool) (st : State)
       → pieces w 0 b st (q ∷ xs ++ q ∷ rs) ≡ piece k xs ∷ pieces w 0 (eqb q 42) (state_after k st) rs
   unfolding pieces read_one by_rule quoted

@@ -1,5 +1,4 @@
--- The table of marks: what it says of a character, and that a mark is read as the rules have it.
--- get_or-marks     the table at a character
+-- The marks: which characters they are, and that a mark is read as the rules have it.
 -- each_mark      a character is one of the twelve marks, or none
 -- mark_high      nothing above ASCII is a mark
 -- mark_small, mark_state   a mark's kind is a small number, after which the state is as it was
@@ -18,23 +17,19 @@ use borrow.Author.Tests.{ne_eqb, eqb-true, eqb-false}
 use Rattle.chars.specs.Utf8.{chars}
 use Rattle.chars.specs.Steps.{offset}
 use Rattle.tokens.specs.Kinds as kind
+use Rattle.tokens.specs.Named as named
+use Rattle.tokens.specs.declared.kind.Kind.{Kind}
+use Rattle.tokens.specs.declared.kind.Kind.TheVariants as the
 use Rattle.tokens.specs.Slots.{bare}
-use Rattle.tokens.proofs.Tabling.{get_or-tabled}
 use Rattle.lexer.specs.declared.rule.State.{State}
 use Rattle.lexer.specs.declared.rule.Rule.TheVariants.{Single}
-use Rattle.lexer.specs.declared.read.Step.TheVariants.{Token}
 use Rattle.scans.specs.Ways.{Ways}
 use Rattle.scans.specs.Whole.{Readable}
 use Rattle.lexer.specs.Rules.{nothing, took, rule_of, by_rule, read_one, state_after}
-use Rattle.lexer.specs.Marks.{mark_of, mark_table}
-use Rattle.lexer.specs.Read.{step_of, read_by, Ascii}
+use Rattle.lexer.specs.Marks.{mark_of}
+use Rattle.lexer.specs.Read.{step_of, read_by, Ascii, taken}
 use Rattle.scans.proofs.Characters.{stepped_ascii}
 use Rattle.lexer.proofs.Steps.{read_at, single_read}
-
--- ---- the table
-pub get_or-marks : (c : ℕ) → c < 0x80 → get_or mark_table c 0 ≡ mark_of c
-unfolding mark_table
-get_or-marks c h = get_or-tabled mark_of 0 0x80 c h ∙ ap mark_of (omega arith)
 
 -- ---- which characters are marks
 -- a number is this one, or it is not
@@ -89,17 +84,30 @@ mark_ascii t at r n = go (dec_lt (get_or t at 0) 0x80)
 
 -- ---- what the rules choose
 module _ (w : Ways) (state : State) where
-  pub mark_rule : (c : ℕ) (cs : List ℕ) → (mark_of c ≡ kind.None → ⊥) → rule_of w state c cs ≡ Single (mark_of c)
+  pub mark_rule : (c : ℕ) (cs : List ℕ) → (mark_of c ≡ kind.None → ⊥) → (k : Kind) × (rule_of w state c cs ≡ Single k) × (named.number k ≡ mark_of c)
   unfolding mark_of rule_of
   mark_rule c cs h =
-      each_mark c (λ d. rule_of w state d cs ≡ Single (mark_of d)) refl refl refl refl refl refl refl refl refl refl refl refl (λ e. absurd (h e))
+      each_mark c (λ d. (k : Kind) × (rule_of w state d cs ≡ Single k) × (named.number k ≡ mark_of d))
+      (the.Space, refl, refl)
+      (the.Newline, refl, refl)
+      (the.Newline, refl, refl)
+      (the.Dot, refl, refl)
+      (the.Comma, refl, refl)
+      (the.ParentheseOpen, refl, refl)
+      (the.ParentheseClose, refl, refl)
+      (the.SquareBracketOpen, refl, refl)
+      (the.SquareBracketClose, refl, refl)
+      (the.Colon, refl, refl)
+      (the.Semicolon, refl, refl)
+      (the.Placeholder, refl, refl)
+      (λ e. absurd (h e))
 
   mark_out : (star : Bool) (c : ℕ) (cs : List ℕ) → (mark_of c ≡ kind.None → ⊥) → read_one w star state c cs ≡ took (mark_of c) nothing 0
   unfolding read_one by_rule
-  mark_out star c cs n = rw (mark_rule c cs n)
+  mark_out star c cs n = let m = mark_rule c cs n in rw m.1 (ap (λ (k : ℕ). took k nothing 0) m.2)
 
   pub mark_read : (star : Bool) (t : List ℕ) (at : ℕ) → Readable t at → (mark_of (get_or t at 0) ≡ kind.None → ⊥)
-      → Token (bare (mark_of (get_or t at 0))) (offset (at + 1)) ≡ read_by (read_one w star state) t at
+      → taken (bare (mark_of (get_or t at 0))) (offset (at + 1)) ≡ read_by (read_one w star state) t at
   mark_read star t at r n =
       let a = mark_ascii t at r n in
       let c = get_or t at 0 in

@@ -9,6 +9,7 @@
 use mathlib.Core.Path.{◌≡◌, refl, sym, ap, ◌∙◌}
 use mathlib.Core.Bool.{Bool, true, false, cond, not}
 use mathlib.Core.List.{List, [], ◌∷◌}
+use Rattle.std.specs.Prelude.{None}
 use Prim.Native.Nat.{ℕ, zero, suc, ◌+◌, ◌-◌, ◌≤◌, ◌<◌}
 use native.Mathlib.Nat.{add_assoc, add-zero, zero-add, suc-add}
 use native.Mathlib.Omega.{arith}
@@ -27,13 +28,12 @@ use Rattle.tokens.specs.Answers.{limit}
 use Rattle.scans.specs.declared.goes.Stop.TheVariants as stop
 use Rattle.words.specs.declared.guess.Sort.{Sort}
 use Rattle.words.specs.declared.guess.Sort.TheVariants.{Words, Runs, Zeros}
-use Rattle.lexer.specs.declared.read.Step.TheVariants.{Token, Stopped}
 use Rattle.scans.specs.Ways.{pinned}
 use Rattle.scans.specs.Scans.{scan, span, bytes, reach, closes, escapes, quote_len, block_len, in_line, in_run, goes_on}
 use Rattle.words.specs.Known.{known_kind}
 use Rattle.lexer.specs.Rules.{Out, halt, took, nothing, slice, sliced, known, one_more, quoted, line, block, numbered, run, charset, word, number, unknown, starts_word, starts_number}
 use Rattle.scans.specs.Whole.{Whole}
-use Rattle.lexer.specs.Read.{part_of, step_of, read_by, Ascii, Leads, NumberFrom}
+use Rattle.lexer.specs.Read.{part_of, step_of, read_by, Ascii, Leads, NumberFrom, taken}
 use Rattle.scans.proofs.Characters.{Here, stands, readable_here, stepped_ascii, whole-ascii, lead_low, low_lead}
 use Rattle.scans.proofs.Reaching.{reach_rest, reach_in, reach-le, whole-reach, span_on, chars_end}
 use Rattle.scans.proofs.Classes.{word_alnum, charset_letter, number-numeric}
@@ -56,13 +56,13 @@ module _ (t : List ℕ) (at c next : ℕ) (p : Stepped t at c next) where
     unfolding reach
     end_at = omega (arith, p.wide)
 
-    sliced-step : (k : ℕ) → step_of at (c ∷ rest) (sliced k (g rest)) ≡ Token (part_of k at (reach g t next)) (offset (reach g t next))
+    sliced-step : (k : ℕ) → step_of at (c ∷ rest) (sliced k (g rest)) ≡ taken (part_of k at (reach g t next)) (offset (reach g t next))
     sliced-step k = rw (add-zero, end_at)
 
-    inner_step : (k : ℕ) → step_of at (c ∷ rest) (took k (slice 1 (suc (g rest))) (g rest)) ≡ Token (part_of k next (reach g t next)) (offset (reach g t next))
+    inner_step : (k : ℕ) → step_of at (c ∷ rest) (took k (slice 1 (suc (g rest))) (g rest)) ≡ taken (part_of k next (reach g t next)) (offset (reach g t next))
     inner_step k = rw (first_at, end_at)
 
-    plain_step : (k : ℕ) → step_of at (c ∷ rest) (took k nothing (g rest)) ≡ Token (bare k) (offset (reach g t next))
+    plain_step : (k : ℕ) → step_of at (c ∷ rest) (took k nothing (g rest)) ≡ taken (bare k) (offset (reach g t next))
     plain_step k = rw end_at
 
     -- the text that is looked up
@@ -76,7 +76,7 @@ module _ (t : List ℕ) (at c next : ℕ) (p : Stepped t at c next) where
       kind_is : known_kind sort (take (suc (g rest)) (c ∷ rest)) ≡ k
       kind_is = text_is sort w ∙ sym (l ∙ ap (λ (o : Offset). known_kind sort (take (o.0 - at) (drop at t))) d)
 
-      pub known_step : (other : Out) → (k ≡ kind.None → ⊥) → Token (bare k) e ≡ step_of at (c ∷ rest) (known (known_kind sort (take (suc (g rest)) (c ∷ rest))) (g rest) other)
+      pub known_step : (other : Out) → (k ≡ kind.None → ⊥) → taken (bare k) e ≡ step_of at (c ∷ rest) (known (known_kind sort (take (suc (g rest)) (c ∷ rest))) (g rest) other)
       known_step other n = sym (rw (kind_is, ne_eqb k kind.None n, d) (plain_step k))
 
       pub other_step : (other : Out) → k ≡ kind.None → step_of at (c ∷ rest) other ≡ step_of at (c ∷ rest) (known (known_kind sort (take (suc (g rest)) (c ∷ rest))) (g rest) other)
@@ -109,34 +109,34 @@ module _ (t : List ℕ) (at : ℕ) (a : Ascii t at) where
     pub end_after : at ≤ e.0
     end_after = rw d (omega (arith, reach-le g t (at + 1)))
 
-    slice_read : (k : ℕ) (f : ℕ → List ℕ → Out) → f c (chars (drop (at + 1) t)) ≡ sliced k (g (chars (drop (at + 1) t))) → Token (part_of k at e.0) e ≡ read_by f t at
+    slice_read : (k : ℕ) (f : ℕ → List ℕ → Out) → f c (chars (drop (at + 1) t)) ≡ sliced k (g (chars (drop (at + 1) t))) → taken (part_of k at e.0) e ≡ read_by f t at
     slice_read k f q = rw d (sym (read_at t at c (at + 1) here f ∙ ap (step_of at (c ∷ chars (drop (at + 1) t))) q ∙ sliced-step t at c (at + 1) here g k))
 
-  pub line_read : (e : Offset) → e ≡ offset (reach (span in_line) t (at + 1)) → Token (part_of kind.Comment at e.0) e ≡ read_by (λ c cs. line cs) t at
+  pub line_read : (e : Offset) → e ≡ offset (reach (span in_line) t (at + 1)) → taken (part_of kind.Comment at e.0) e ≡ read_by (λ c cs. line cs) t at
   line_read e d = slice_read (span in_line) e d kind.Comment (λ c cs. line cs) (unfold line in refl)
 
-  pub block_read : (star : Bool) (e : Offset) → e ≡ offset (reach (block_len star) t (at + 1)) → Token (part_of kind.Comment at e.0) e ≡ read_by (λ c cs. block star cs) t at
+  pub block_read : (star : Bool) (e : Offset) → e ≡ offset (reach (block_len star) t (at + 1)) → taken (part_of kind.Comment at e.0) e ≡ read_by (λ c cs. block star cs) t at
   block_read star e d = slice_read (block_len star) e d kind.Comment (λ c cs. block star cs) (unfold block in refl)
 
   pub numbered_read : (e : Offset) → e ≡ offset (reach (span (goes_on pinned stop.Numerics)) t (at + 1))
-      → Token (part_of kind.NumberedPlaceholder at e.0) e ≡ read_by (λ c cs. numbered pinned cs) t at
+      → taken (part_of kind.NumberedPlaceholder at e.0) e ≡ read_by (λ c cs. numbered pinned cs) t at
   numbered_read e d = slice_read (span (goes_on pinned stop.Numerics)) e d kind.NumberedPlaceholder (λ c cs. numbered pinned cs) (unfold numbered in refl)
 
   pub charset_read : (e : Offset) → e ≡ offset (reach (span (goes_on pinned stop.Charset)) t (at + 1))
-      → Token (part_of kind.Charset (at + 1) e.0) e ≡ read_by (λ c cs. charset pinned cs) t at
+      → taken (part_of kind.Charset (at + 1) e.0) e ≡ read_by (λ c cs. charset pinned cs) t at
   unfolding charset
   charset_read e d =
       rw d (sym (read_at t at c (at + 1) here (λ c cs. charset pinned cs) ∙ inner_step t at c (at + 1) here (span (goes_on pinned stop.Charset)) kind.Charset))
 
-  pub single_read : (k : ℕ) → Token (bare k) (offset (at + 1)) ≡ read_by (λ c cs. took k nothing 0) t at
+  pub single_read : (k : ℕ) → taken (bare k) (offset (at + 1)) ≡ read_by (λ c cs. took k nothing 0) t at
   single_read k = sym (read_at t at c (at + 1) here (λ c cs. took k nothing 0) ∙ rw (first_at t at c (at + 1) here))
 
   module _ (e : Offset) (d : e ≡ offset (reach (span in_run) t (at + 1))) (k : ℕ) (l : k ≡ known_kind Runs (take (e.0 - at) (drop at t))) where
-    pub run-known : (k ≡ kind.None → ⊥) → Token (bare k) e ≡ read_by run t at
+    pub run-known : (k ≡ kind.None → ⊥) → taken (bare k) e ≡ read_by run t at
     unfolding run
     run-known n = known_step t at c (at + 1) here (span in_run) e d Runs a.readable.rest k l halt n ∙ sym (read_at t at c (at + 1) here run)
 
-    pub run_halt : k ≡ kind.None → Stopped ≡ read_by run t at
+    pub run_halt : k ≡ kind.None → None ≡ read_by run t at
     unfolding run
     run_halt n = other_step t at c (at + 1) here (span in_run) e d Runs a.readable.rest k l halt n ∙ sym (read_at t at c (at + 1) here run)
 
@@ -179,21 +179,21 @@ module _ (t : List ℕ) (at : ℕ) (a : Ascii t at) (k : ℕ) (e : Offset) (d : 
       ap (λ (n : ℕ). at + (width q + n)) (bytes-add (quote_len q cs) (one_more (drop (quote_len q cs) cs)) cs)
       ∙ rw (← left) (omega (arith, end_is, end_at t at q (at + 1) (here t at a) (quote_len q)))
 
-  quoted_is : read_by (quoted k) t at ≡ Token (part_of k (at + 1) e.0) (offset (e.0 + bytes (one_more (chars (drop e.0 t))) (chars (drop e.0 t))))
+  quoted_is : read_by (quoted k) t at ≡ taken (part_of k (at + 1) e.0) (offset (e.0 + bytes (one_more (chars (drop e.0 t))) (chars (drop e.0 t))))
   unfolding quoted
   quoted_is =
       read_at t at q (at + 1) (here t at a) (quoted k)
       ∙ rw (past, first_at t at q (at + 1) (here t at a), end_at t at q (at + 1) (here t at a) (quote_len q), ← end_is)
 
-  pub quoted_closed : e.0 < length t → Token (part_of k (at + 1) e.0) (offset (e.0 + 1)) ≡ read_by (quoted k) t at
-  quoted_closed h = sym (quoted_is ∙ ap (λ (n : ℕ). Token (part_of k (at + 1) e.0) (offset (e.0 + n))) (one (readable_here t e.0 (record { here = h; rest = rw end_is (whole-reach (quote_len q) t (at + 1) (after_whole t at a)) }))))
+  pub quoted_closed : e.0 < length t → taken (part_of k (at + 1) e.0) (offset (e.0 + 1)) ≡ read_by (quoted k) t at
+  quoted_closed h = sym (quoted_is ∙ ap (λ (n : ℕ). taken (part_of k (at + 1) e.0) (offset (e.0 + n))) (one (readable_here t e.0 (record { here = h; rest = rw end_is (whole-reach (quote_len q) t (at + 1) (after_whole t at a)) }))))
     where
       one : Here t e.0 → bytes (one_more (chars (drop e.0 t))) (chars (drop e.0 t)) ≡ 1
       one (stands s next p i v) =
           let z : s ≡ q = quote_stop q false cs s (chars (drop next t)) (sym left ∙ p.reads) in
           rw (p.reads, z) (omega (arith, width_1 q a.low))
 
-  pub quoted_open : length t ≤ e.0 → Token (part_of k (at + 1) e.0) e ≡ read_by (quoted k) t at
+  pub quoted_open : length t ≤ e.0 → taken (part_of k (at + 1) e.0) e ≡ read_by (quoted k) t at
   quoted_open h = sym (quoted_is ∙ rw (chars_end t e.0 h, add-zero))
 
 -- ---- rules 9 and 10
@@ -229,20 +229,20 @@ module _ (t : List ℕ) (at : ℕ) (l : Leads (starts_word pinned) t at) (e : Of
   abbrev inside : List ℕ → ℕ
   inside = span (goes_on pinned stop.Word)
 
-  pub word-known : (k ≡ kind.None → ⊥) → Token (bare k) e ≡ read_by (word pinned) t at
+  pub word-known : (k ≡ kind.None → ⊥) → taken (bare k) e ≡ read_by (word pinned) t at
   unfolding word
   word-known n = from (lead_is (starts_word pinned) t at l)
     where
-      from : Lead (starts_word pinned) t at → Token (bare k) e ≡ read_by (word pinned) t at
+      from : Lead (starts_word pinned) t at → taken (bare k) e ≡ read_by (word pinned) t at
       from (led s next p q a b) =
           known_step t at s next p inside e (d ∙ ap offset (span_on (goes_on pinned stop.Word) t at s next p (word_goes s q))) Words l.readable.rest k i _ n
           ∙ sym (read_at t at s next p (word pinned))
 
-  pub word_other : k ≡ kind.None → Token (part_of kind.Other at e.0) e ≡ read_by (word pinned) t at
+  pub word_other : k ≡ kind.None → taken (part_of kind.Other at e.0) e ≡ read_by (word pinned) t at
   unfolding word
   word_other n = from (lead_is (starts_word pinned) t at l)
     where
-      from : Lead (starts_word pinned) t at → Token (part_of kind.Other at e.0) e ≡ read_by (word pinned) t at
+      from : Lead (starts_word pinned) t at → taken (part_of kind.Other at e.0) e ≡ read_by (word pinned) t at
       from (led s next p q a b) =
           let f = d ∙ ap offset (span_on (goes_on pinned stop.Word) t at s next p (word_goes s q)) in
           rw f (sym (sliced-step t at s next p inside kind.Other)) ∙ other_step t at s next p inside e f Words l.readable.rest k i _ n
@@ -280,27 +280,27 @@ module _ (t : List ℕ) (at : ℕ) (l : Leads (starts_number pinned) t at) where
         go (led s next p q a b) = rw (end_next s next p) (omega (arith, p.on, reach-le digits t next), reach_in digits t next p.inside)
 
     module _ (k : ℕ) (i : k ≡ known_kind Zeros (take (e.0 - at) (drop at t))) where
-      pub number-known : (k ≡ kind.None → ⊥) → Token (bare k) e ≡ read_by (number pinned) t at
+      pub number-known : (k ≡ kind.None → ⊥) → taken (bare k) e ≡ read_by (number pinned) t at
       unfolding number
       number-known n = go (lead_is (starts_number pinned) t at l)
         where
-          go : Lead (starts_number pinned) t at → Token (bare k) e ≡ read_by (number pinned) t at
+          go : Lead (starts_number pinned) t at → taken (bare k) e ≡ read_by (number pinned) t at
           go (led s next p q a b) =
               known_step t at s next p digits e (end_next s next p) Zeros l.readable.rest k i _ n ∙ sym (read_at t at s next p (number pinned))
 
-      pub number_plain : k ≡ kind.None → Token (part_of kind.Numeric at e.0) e ≡ read_by (number pinned) t at
+      pub number_plain : k ≡ kind.None → taken (part_of kind.Numeric at e.0) e ≡ read_by (number pinned) t at
       unfolding number
       number_plain n = go (lead_is (starts_number pinned) t at l)
         where
-          go : Lead (starts_number pinned) t at → Token (part_of kind.Numeric at e.0) e ≡ read_by (number pinned) t at
+          go : Lead (starts_number pinned) t at → taken (part_of kind.Numeric at e.0) e ≡ read_by (number pinned) t at
           go (led s next p q a b) =
               rw (end_next s next p) (sym (sliced-step t at s next p digits kind.Numeric))
               ∙ other_step t at s next p digits e (end_next s next p) Zeros l.readable.rest k i _ n ∙ sym (read_at t at s next p (number pinned))
 
 -- ---- rule 11
-pub unknown_read : (t : List ℕ) (at s next : ℕ) → Stepped t at s next → Token (part_of kind.Unknown s 0) (offset next) ≡ read_by (λ c cs. unknown c) t at
+pub unknown_read : (t : List ℕ) (at s next : ℕ) → Stepped t at s next → taken (part_of kind.Unknown s 0) (offset next) ≡ read_by (λ c cs. unknown c) t at
 unknown_read t at s next p = sym (read_at t at s next p (λ c cs. unknown c) ∙ rw (first_at t at s next p))
 
-pub none_read : (f : ℕ → List ℕ → Out) (t : List ℕ) (at : ℕ) → chars (drop at t) ≡ [] → Stopped ≡ read_by f t at
+pub none_read : (f : ℕ → List ℕ → Out) (t : List ℕ) (at : ℕ) → chars (drop at t) ≡ [] → None ≡ read_by f t at
 unfolding read_by
 none_read f t at e = rw e

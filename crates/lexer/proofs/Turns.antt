@@ -9,6 +9,7 @@
 use mathlib.Core.Path.{◌≡◌, refl, sym, ap, ◌∙◌}
 use mathlib.Core.Bool.{Bool, true, false, cond}
 use mathlib.Core.List.{List, [], ◌∷◌, ◌++◌}
+use Rattle.std.specs.Prelude.{Option, Some, None}
 use Prim.Native.Nat.{ℕ, zero, suc, ◌+◌, ◌-◌, ◌≤◌, ◌<◌}
 use native.Mathlib.Nat.{add-zero, add_assoc}
 use native.Mathlib.Decide.{dec_lt}
@@ -27,14 +28,14 @@ use Rattle.tokens.specs.declared.slot.Slot.{Slot}
 use Rattle.tokens.specs.Kinds as kind
 use Rattle.tokens.specs.Slots.{bare, room, stored, laid}
 use Rattle.tokens.proofs.Storing.{laid_none, laid_more, length-stored}
+use Rattle.lexer.specs.declared.read.Taken.{Taken}
 use Rattle.lexer.specs.declared.rule.State.{State}
 use Rattle.lexer.specs.declared.rule.State.TheVariants.{Default}
-use Rattle.lexer.specs.declared.read.Step.TheVariants.{Token, Stopped}
 use Rattle.scans.specs.Ways.{Ways}
 use Rattle.scans.specs.Scans.{bytes, reach}
 use Rattle.lexer.specs.Rules.{Carried, nothing, slice, scalar, Out, halt, took, read_one, state_after}
 use Rattle.scans.specs.Whole.{star_before, Whole, Readable}
-use Rattle.lexer.specs.Read.{slot_of, Reading, stopped, next, tokens, stop_at, onward, go, reading, step_of, read_by, kept}
+use Rattle.lexer.specs.Read.{slot_of, Reading, stopped, next, tokens, stop_at, onward, go, reading, step_of, read_by, kept, taken}
 use Rattle.scans.proofs.Characters.{View, here, past, view, Here, stands, readable_here, star_step}
 use Rattle.scans.proofs.Reaching.{chars_end, whole-reach}
 use Rattle.lexer.proofs.Steps.{read_at}
@@ -101,13 +102,23 @@ module _ (w : Ways) where
     kind_of_lem cs k (slice m n) = refl
     kind_of_lem cs k (scalar c) = refl
 
+    -- what a token that was read is, and where it ends
+    slot_in : Slot → Option Taken → Slot
+    slot_in d None = d
+    slot_in d (Some t) = t.slot
+
+    end_in : Offset → Option Taken → Offset
+    end_in d None = d
+    end_in d (Some t) = t.next
+
     turn_at : (r : Readable t at) (c nx : ℕ) → Stepped t at c nx → star_before t nx ≡ eqb c 42 → Whole t nx → (o : Out)
-        → read_one w (star_before t at) st c (chars (drop nx t)) ≡ o → (slot : Slot) (after : Offset) → Token slot after ≡ step_of at (c ∷ chars (drop nx t)) o → Turn slot after.0
+        → read_one w (star_before t at) st c (chars (drop nx t)) ≡ o → (slot : Slot) (after : Offset) → taken slot after ≡ step_of at (c ∷ chars (drop nx t)) o → Turn slot after.0
+    unfolding slot_in end_in
     turn_at r c nx p e v halt q slot after z = clash (cc)
     turn_at r c nx p e v (took k x n) q slot after z =
         let cs = chars (drop nx t) in
-        let s : slot ≡ slot_of at (c ∷ cs) k x = cc in
-        let a : after ≡ offset (at + (width c + bytes n cs)) = cc in
+        let s : slot ≡ slot_of at (c ∷ cs) k x = ap (slot_in slot) z in
+        let a : after ≡ offset (at + (width c + bytes n cs)) = ap (end_in after) z in
         let b : after.0 ≡ at + (width c + bytes n cs) = ap (λ (o : Offset). o.0) a in
         let i : after.0 ≡ nx + bytes n cs = omega (arith, p.wide) in
         let j : slot.kind ≡ k = ap (λ (u : Slot). u.kind) s ∙ kind_of_lem (c ∷ cs) k x in
@@ -118,7 +129,7 @@ module _ (w : Ways) where
           whole = rw i (unfold reach in (whole-reach (λ l. n) t nx v));
         }
 
-    pub turn : Readable t at → (slot : Slot) (after : Offset) → Token slot after ≡ read_by (read_one w (star_before t at) st) t at → Turn slot after.0
+    pub turn : Readable t at → (slot : Slot) (after : Offset) → taken slot after ≡ read_by (read_one w (star_before t at) st) t at → Turn slot after.0
     turn r slot after z = from (readable_here t at r)
       where
         from : Here t at → Turn slot after.0
@@ -127,11 +138,11 @@ module _ (w : Ways) where
             (z ∙ read_at t at c nx p (read_one w (star_before t at) st))
 
     stop_at_lem : (c nx : ℕ) → Stepped t at c nx → star_before t nx ≡ eqb c 42 → (o : Out) → read_one w (star_before t at) st c (chars (drop nx t)) ≡ o
-        → Stopped ≡ step_of at (c ∷ chars (drop nx t)) o → go_at t at st ≡ stopped at
+        → None ≡ step_of at (c ∷ chars (drop nx t)) o → go_at t at st ≡ stopped at
     stop_at_lem c nx p e halt q z = go_step c nx p e ∙ rw q
     stop_at_lem c nx p e (took k x n) q z = clash (cc)
 
-    pub turn_stop : Readable t at → Stopped ≡ read_by (read_one w (star_before t at) st) t at → go_at t at st ≡ stopped at
+    pub turn_stop : Readable t at → None ≡ read_by (read_one w (star_before t at) st) t at → go_at t at st ≡ stopped at
     turn_stop r z = from (readable_here t at r)
       where
         from : Here t at → go_at t at st ≡ stopped at

@@ -15,30 +15,31 @@ use Rattle.tokens.specs.Answers.{Answer, done, refused}
 use Rattle.tokens.proofs.Back.{back}
 use Rattle.lexer.specs.Lexes.{paper, Lexes}
 use Rattle.lexer.specs.declared.lex.Lexed.{Lexed}
-use Rattle.lexer.specs.declared.lex.Lexed.TheVariants.{Done, Refused}
+use Rattle.tokens.specs.declared.refusal.Refusal.{Refusal}
+use Rattle.std.specs.Prelude.{Result, Ok, Err}
 use Rattle.lexer.proofs.lex.lex.Kinds as kinds
 use Rattle.lexer.proofs.lex.lex.Reads as reads
 
 -- an answer read back from the paper's numbers
-lexed : Answer → Lexed
-lexed (done ns) = Done (get_or ns 0 0) (record { 0 = get_or ns 1 0 })
-lexed (refused k d) = Refused (back (refused k d))
+lexed : Answer → Result Lexed Refusal
+lexed (done ns) = Ok (record { tokens = get_or ns 0 0; stop = record { 0 = get_or ns 1 0 } })
+lexed (refused k d) = Err (back (refused k d))
 
-lexed_paper : (r : Lexed) → lexed (paper r) ≡ r
+lexed_paper : (r : Result Lexed Refusal) → lexed (paper r) ≡ r
 unfolding lexed back
-lexed_paper (Done n stop) = refl
-lexed_paper (Refused (TextTooLong n)) = refl
-lexed_paper (Refused (NotUtf8 at)) = refl
-lexed_paper (Refused (NoRoomTokens n)) = refl
-lexed_paper (Refused (BadCount n)) = refl
-lexed_paper (Refused (BadToken p)) = refl
-lexed_paper (Refused (CutChar p)) = refl
-lexed_paper (Refused (NoRoomOut n)) = refl
+lexed_paper (Ok l) = refl
+lexed_paper (Err (TextTooLong n)) = refl
+lexed_paper (Err (NotUtf8 at)) = refl
+lexed_paper (Err (NoRoomTokens n)) = refl
+lexed_paper (Err (BadCount n)) = refl
+lexed_paper (Err (BadToken p)) = refl
+lexed_paper (Err (CutChar p)) = refl
+lexed_paper (Err (NoRoomOut n)) = refl
 
-pub paper_one : {r s : Lexed} → paper r ≡ paper s → r ≡ s
+pub paper_one : {r s : Result Lexed Refusal} → paper r ≡ paper s → r ≡ s
 paper_one {r} {s} e = sym (lexed_paper r) ∙ ap lexed e ∙ lexed_paper s
 
-pub lexes_one : {text ws : List ℕ} {r₁ r₂ : Lexed} {b₁ b₂ : List ℕ} → Lexes text ws r₁ b₁ → Lexes text ws r₂ b₂ → (r₁ ≡ r₂) × (b₁ ≡ b₂)
+pub lexes_one : {text ws : List ℕ} {r₁ r₂ : Result Lexed Refusal} {b₁ b₂ : List ℕ} → Lexes text ws r₁ b₁ → Lexes text ws r₂ b₂ → (r₁ ≡ r₂) × (b₁ ≡ b₂)
 lexes_one p q = (paper_one (p.answer ∙ sym q.answer), p.buffer ∙ sym q.buffer)
 
 -- for whatever lifetimes and arguments, two results and two ways to leave the parameters that both meet the contract are one result, and

@@ -1,17 +1,17 @@
 -- What `lex` promises. Assumes nothing.
-use Rattle.std.specs.Prelude.{ℕ, ◌≡◌, cond, List, [], ◌∷◌, ltb, length}
+use Rattle.std.specs.Prelude.{ℕ, ◌≡◌, cond, List, [], ◌∷◌, ltb, length, Result, Ok, Err}
+use Rattle.tokens.specs.declared.refusal.Refusal.{Refusal}
 use Rattle.tokens.specs.Slots.{room, laid}
 use Rattle.tokens.specs.Answers.{Answer, done, no_room_tokens, refusal}
 use Rattle.tokens.specs.Checks.{◌then◌, check_text, afterwards}
 use Rattle.lexer.specs.declared.lex.Lexed.{Lexed}
-use Rattle.lexer.specs.declared.lex.Lexed.TheVariants.{Done, Refused}
 use Rattle.scans.specs.Ways.{Ways, pinned}
 use Rattle.lexer.specs.Read.{tokens, stop_at, reading}
 
 -- the code's answer in the paper's numbers
-abbrev pub paper : Lexed → Answer
-paper (Done n stop) = done (n ∷ (stop.0 ∷ []))
-paper (Refused r) = refusal r
+abbrev pub paper : Result Lexed Refusal → Answer
+paper (Ok l) = done (l.tokens ∷ (l.stop.0 ∷ []))
+paper (Err why) = refusal why
 
 -- of a valid text: refusal 3; else the number of tokens and the stop offset
 unfoldable pub valid_answer : Ways → List ℕ → ℕ → Answer
@@ -33,11 +33,11 @@ unfoldable pub lex_buffer : Ways → List ℕ → List ℕ → List ℕ
 lex_buffer w text ws = afterwards (lex_answer w text (room ws)) (laid (tokens (reading w text)) ws) ws
 
 -- the answer, and what is left in the words
-pub record Lexes (text ws : List ℕ) (r : Lexed) (left : List ℕ) : Type 0 where
+pub record Lexes (text ws : List ℕ) (r : Result Lexed Refusal) (left : List ℕ) : Type 0 where
   pub answer : paper r ≡ lex_answer pinned text (room ws)
   pub buffer : left ≡ lex_buffer pinned text ws
 
 -- the same of a valid text
-pub record Valid (text ws : List ℕ) (r : Lexed) (left : List ℕ) : Type 0 where
+pub record Valid (text ws : List ℕ) (r : Result Lexed Refusal) (left : List ℕ) : Type 0 where
   pub answer : paper r ≡ valid_answer pinned text (room ws)
   pub buffer : left ≡ valid_buffer pinned text ws

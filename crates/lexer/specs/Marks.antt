@@ -1,7 +1,7 @@
--- The marks of rule 4 as a table, which the code looks up before it goes through the rules. Assumes nothing.
-use Rattle.std.specs.Prelude.{ℕ, List}
+-- The marks of rule 4, which the code asks for before it goes through the rules. Assumes nothing.
+use Rattle.std.specs.Prelude.{ℕ}
 use Rattle.tokens.specs.Kinds as kind
-use Rattle.tokens.specs.Tabled.{tabled}
+use Rattle.tokens.specs.Named.{number}
 use Rattle.lexer.specs.declared.rule.Rule.{Rule}
 use Rattle.lexer.specs.declared.rule.Rule.TheVariants.{Quoted, Line, Block, Single, Numbered, Run, Charset, Word, Number, Unknown}
 use Rattle.lexer.specs.Rules.{singles}
@@ -11,7 +11,7 @@ abbrev pub single_kind : Rule → ℕ
 single_kind (Quoted k) = kind.None
 single_kind Line = kind.None
 single_kind Block = kind.None
-single_kind (Single k) = k
+single_kind (Single k) = number k
 single_kind Numbered = kind.None
 single_kind Run = kind.None
 single_kind Charset = kind.None
@@ -22,7 +22,3 @@ single_kind Unknown = kind.None
 -- rule 4: the kind of a mark, and None for any other character
 unfoldable pub mark_of : ℕ → ℕ
 mark_of c = single_kind (singles c Unknown)
-
--- the same for all of ASCII
-unfoldable pub mark_table : List ℕ
-mark_table = tabled mark_of 0 0x80

@@ -1,15 +1,15 @@
 -- The reading of a text: its tokens, and the offset where it stops. Assumes nothing.
-use Rattle.std.specs.Prelude.{ℕ, zero, suc, ◌+◌, ◌<◌, ◌≡◌, Bool, true, false, cond, List, [], ◌∷◌, eqb, ltb, length, drop, get_or}
+use Rattle.std.specs.Prelude.{ℕ, zero, suc, ◌+◌, ◌<◌, ◌≡◌, Bool, true, false, cond, List, [], ◌∷◌, eqb, ltb, length, drop, get_or, Option, Some, None}
 use Prim.Native.Char.{code}
 use Rattle.chars.specs.Utf8.{chars, width}
 use Rattle.chars.specs.Steps.{offset}
+use Rattle.chars.specs.declared.offset.Offset.{Offset}
 use Rattle.tokens.specs.Slots.{bare, stored}
 use Rattle.tokens.specs.declared.slot.Slot.{Slot}
 use Rattle.lexer.specs.declared.rule.State.{State}
 use Rattle.lexer.specs.declared.rule.State.TheVariants.{Default}
-use Rattle.lexer.specs.declared.read.Step.{Step}
-use Rattle.lexer.specs.declared.read.Step.TheVariants.{Token, Stopped}
-use Rattle.lexer.specs.declared.lex.Walked.{Walked}
+use Rattle.lexer.specs.declared.read.Taken.{Taken}
+use Rattle.lexer.specs.declared.lex.Lexed.{Lexed}
 use Rattle.scans.specs.declared.goes.Stop.TheVariants.{Number}
 use Rattle.scans.specs.Whole.{Readable}
 use Rattle.scans.specs.Ways.{Ways, pinned}
@@ -64,13 +64,17 @@ abbrev pub on_chars : {A : Type 0} → A → (ℕ → List ℕ → A) → List �
 on_chars none f [] = none
 on_chars none f (c ∷ cs) = f c cs
 
--- the token and the offset after it
-abbrev pub step_of : ℕ → List ℕ → Out → Step
-step_of at cs halt = Stopped
-step_of at cs (took k x n) = Token (slot_of at cs k x) (offset (at + bytes (suc n) cs))
+-- a token that was read, and the offset after it
+abbrev pub taken : Slot → Offset → Option Taken
+taken t end = Some (record { slot = t; next = end })
+
+-- what the code answers of it
+abbrev pub step_of : ℕ → List ℕ → Out → Option Taken
+step_of at cs halt = None
+step_of at cs (took k x n) = taken (slot_of at cs k x) (offset (at + bytes (suc n) cs))
 
 -- what the rule f reads at an offset
-unfoldable pub read_by : (ℕ → List ℕ → Out) → List ℕ → ℕ → Step
+unfoldable pub read_by : (ℕ → List ℕ → Out) → List ℕ → ℕ → Option Taken
 read_by f text at = let cs = chars (drop at text) in step_of at cs (on_chars halt f cs)
 
 -- an ASCII character stands at the offset
@@ -88,8 +92,8 @@ pub record NumberFrom (text : List ℕ) (at from : ℕ) : Type 0 where
   pub same : reach (span (goes_on pinned Number)) text from ≡ at + bytes (suc (span (goes_on pinned Number) (drop 1 (chars (drop at text))))) (chars (drop at text))
 
 -- the number of tokens and the stop
-abbrev pub walked_of : Reading → Walked
-walked_of r = record { tokens = length (tokens r); stop = offset (stop_at r) }
+abbrev pub lexed_of : Reading → Lexed
+lexed_of r = record { tokens = length (tokens r); stop = offset (stop_at r) }
 
 -- the words with a token stored, where its place is below upto
 abbrev pub kept : List ℕ → ℕ → ℕ → Slot → List ℕ

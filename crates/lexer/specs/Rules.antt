@@ -2,6 +2,9 @@
 use Rattle.std.specs.Prelude.{ℕ, suc, ◌+◌, Bool, false, cond, not, ◌&&◌, ◌||◌, List, [], ◌∷◌, eqb, take, drop}
 use Prim.Native.Char.{code}
 use Rattle.tokens.specs.Kinds as kind
+use Rattle.tokens.specs.Named as named
+use Rattle.tokens.specs.declared.kind.Kind.{Kind}
+use Rattle.tokens.specs.declared.kind.Kind.TheVariants as the
 use Rattle.lexer.specs.declared.rule.State.{State}
 use Rattle.lexer.specs.declared.rule.State.TheVariants.{Default, PastSelect, PastFrom}
 use Rattle.lexer.specs.declared.rule.Rule.{Rule}
@@ -43,10 +46,10 @@ head_is passes [] = false
 head_is passes (c ∷ cs) = passes c
 
 -- `*` is Wildcard after a select with no from since
-abbrev pub star_kind : State → ℕ
-star_kind Default = kind.Multiply
-star_kind PastSelect = kind.Wildcard
-star_kind PastFrom = kind.Multiply
+abbrev pub star_kind : State → Kind
+star_kind Default = the.Multiply
+star_kind PastSelect = the.Wildcard
+star_kind PastFrom = the.Multiply
 
 -- select and from change what `*` is
 abbrev pub state_after : ℕ → State → State
@@ -56,9 +59,9 @@ state_after k state = cond (eqb k kind.Select) PastSelect (cond (eqb k kind.From
 -- rule 1
 abbrev pub quotes : ℕ → Rule → Rule
 quotes c other =
-    cond (eqb c (code "`")) (Quoted kind.Backticked)
-    (cond (eqb c (code "'")) (Quoted kind.SingleQuoted)
-    (cond (eqb c (code "\"")) (Quoted kind.DoubleQuoted) other))
+    cond (eqb c (code "`")) (Quoted the.Backticked)
+    (cond (eqb c (code "'")) (Quoted the.SingleQuoted)
+    (cond (eqb c (code "\"")) (Quoted the.DoubleQuoted) other))
 
 -- rules 2 and 3
 abbrev pub comments : ℕ → List ℕ → Rule → Rule
@@ -70,28 +73,28 @@ comments c cs other =
 -- rule 4
 abbrev pub singles : ℕ → Rule → Rule
 singles c other =
-    cond (eqb c (code " ")) (Single kind.Space)
-    (cond (eqb c (code "\n")) (Single kind.Newline)
-    (cond (eqb c (code "\r")) (Single kind.Newline)
-    (cond (eqb c (code ".")) (Single kind.Dot)
-    (cond (eqb c (code ",")) (Single kind.Comma)
-    (cond (eqb c (code "(")) (Single kind.ParentheseOpen)
-    (cond (eqb c (code ")")) (Single kind.ParentheseClose)
-    (cond (eqb c (code "[")) (Single kind.SquareBracketOpen)
-    (cond (eqb c (code "]")) (Single kind.SquareBracketClose)
-    (cond (eqb c (code ":")) (Single kind.Colon)
-    (cond (eqb c (code ";")) (Single kind.Semicolon)
-    (cond (eqb c (code "?")) (Single kind.Placeholder) other)))))))))))
+    cond (eqb c (code " ")) (Single the.Space)
+    (cond (eqb c (code "\n")) (Single the.Newline)
+    (cond (eqb c (code "\r")) (Single the.Newline)
+    (cond (eqb c (code ".")) (Single the.Dot)
+    (cond (eqb c (code ",")) (Single the.Comma)
+    (cond (eqb c (code "(")) (Single the.ParentheseOpen)
+    (cond (eqb c (code ")")) (Single the.ParentheseClose)
+    (cond (eqb c (code "[")) (Single the.SquareBracketOpen)
+    (cond (eqb c (code "]")) (Single the.SquareBracketClose)
+    (cond (eqb c (code ":")) (Single the.Colon)
+    (cond (eqb c (code ";")) (Single the.Semicolon)
+    (cond (eqb c (code "?")) (Single the.Placeholder) other)))))))))))
 
 -- rules 5 and 6
 abbrev pub arithmetic : Ways → State → ℕ → List ℕ → Rule → Rule
 arithmetic w state c cs other =
     cond (eqb c (code "$")) Numbered
     (cond (eqb c (code "*")) (Single (star_kind state))
-    (cond (eqb c (code "/")) (Single kind.Divide)
-    (cond (eqb c (code "%")) (Single kind.Modulo)
-    (cond (eqb c (code "+")) (Single kind.Plus)
-    (cond (eqb c (code "-") && not (head_is w.numeric cs)) (Single kind.Minus) other)))))
+    (cond (eqb c (code "/")) (Single the.Divide)
+    (cond (eqb c (code "%")) (Single the.Modulo)
+    (cond (eqb c (code "+")) (Single the.Plus)
+    (cond (eqb c (code "-") && not (head_is w.numeric cs)) (Single the.Minus) other)))))
 
 -- rules 7 and 8
 abbrev pub operators : ℕ → Rule → Rule
@@ -127,11 +130,11 @@ at_hash cs = cond (head_is (λ d. eqb d (code ">")) cs) Run Line
 
 -- `-`: rules 2, 10 and 6
 abbrev pub at_dash : Ways → List ℕ → Rule
-at_dash w cs = cond (head_is (λ d. eqb d (code "-")) cs) Line (cond (head_is w.numeric cs) Number (Single kind.Minus))
+at_dash w cs = cond (head_is (λ d. eqb d (code "-")) cs) Line (cond (head_is w.numeric cs) Number (Single the.Minus))
 
 -- `/`: rules 3 and 6
 abbrev pub at_slash : List ℕ → Rule
-at_slash cs = cond (head_is (λ d. eqb d (code "*")) cs) Block (Single kind.Divide)
+at_slash cs = cond (head_is (λ d. eqb d (code "*")) cs) Block (Single the.Divide)
 
 -- ---- what each rule reads
 -- rule 1: the content without its quotes
@@ -176,10 +179,10 @@ unknown c = took kind.Unknown (scalar c) 0
 
 -- what the rule reads
 unfoldable pub by_rule : Rule → Ways → Bool → ℕ → List ℕ → Out
-by_rule (Quoted k) w star c cs = quoted k c cs
+by_rule (Quoted k) w star c cs = quoted (named.number k) c cs
 by_rule Line w star c cs = line cs
 by_rule Block w star c cs = block star cs
-by_rule (Single k) w star c cs = single k
+by_rule (Single k) w star c cs = single (named.number k)
 by_rule Numbered w star c cs = numbered w cs
 by_rule Run w star c cs = run c cs
 by_rule Charset w star c cs = charset w cs

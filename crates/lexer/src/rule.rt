@@ -10,7 +10,7 @@ ghost use Rattle.lexer.specs.Read.{on_chars};
 use chars::class::{is_alphabetic, is_numeric};
 use chars::offset::Offset;
 use chars::utf8::{Step, step_at};
-use tokens::kind;
+use tokens::kind::Kind;
 
 // Whether a `select` was read with no `from` since (rule 6).
 #[derive(Clone, Copy)]
@@ -23,10 +23,10 @@ pub enum State {
 // The rules. A quoted text and a single character know their kind.
 #[derive(Clone, Copy)]
 pub enum Rule {
-    Quoted(u32),
+    Quoted(Kind),
     Line,
     Block,
-    Single(u32),
+    Single(Kind),
     Numbered,
     Run,
     Charset,
@@ -36,22 +36,26 @@ pub enum Rule {
 }
 
 // Rule 6: `*` by what was read before.
-fn star_kind(state: State) -> u32
+fn star_kind(state: State) -> Kind
     ensures { result ≡ star_kind state }
 {
     match state {
-        State::Default => kind::MULTIPLY,
-        State::PastSelect => kind::WILDCARD,
-        State::PastFrom => kind::MULTIPLY,
+        State::Default | State::PastFrom => Kind::Multiply,
+        State::PastSelect => Kind::Wildcard,
     }
 }
+
+// The numbers of the kinds that a state hangs on. A token's slot has its kind as a number.
+const SELECT: u32 = Kind::Select as u32;
+
+const FROM: u32 = Kind::From as u32;
 
 pub fn state_after(kind: u32, state: State) -> State
     ensures { result ≡ state_after kind state }
 {
     match kind {
-        kind::SELECT => State::PastSelect,
-        kind::FROM => State::PastFrom,
+        SELECT => State::PastSelect,
+        FROM => State::PastFrom,
         _ => state,
     }
 }
@@ -63,21 +67,16 @@ fn stands(text: &[u8], at: Offset, b: u8) -> bool
     ensures { result ≡ head_is (λ d. eqb d b) (chars (drop at.0 text.now)) }
 {
     let i = at.0;
-    if i < text.len() {
-        return text[i] == b;
-    }
-    false
+    i < text.len() && text[i] == b
 }
 
 // Whether a numeric stands at an offset.
 fn numeric_stands(text: &[u8], at: Offset) -> bool
     ensures { result ≡ head_is numeric (chars (drop at.0 text.now)) }
 {
-    let step = step_at(text, at);
-    match step {
+    match step_at(text, at) {
         Step::Char(c, _) => is_numeric(c),
-        Step::Bad => false,
-        Step::End => false,
+        Step::Bad | Step::End => false,
     }
 }
 
@@ -103,7 +102,7 @@ fn dash_rule(text: &[u8], next: Offset) -> Rule
     if numeric_stands(text, next) {
         return Rule::Number;
     }
-    Rule::Single(kind::MINUS)
+    Rule::Single(Kind::Minus)
 }
 
 // Rules 3 and 6 at `/`.
@@ -114,7 +113,7 @@ fn slash_rule(text: &[u8], next: Offset) -> Rule
     if stands(text, next, b'*') {
         return Rule::Block;
     }
-    Rule::Single(kind::DIVIDE)
+    Rule::Single(Kind::Divide)
 }
 
 // Any ASCII character.
@@ -124,28 +123,28 @@ fn ascii_rule(text: &[u8], next: Offset, b: u8, state: State) -> Rule
     ensures { result ≡ rule_of pinned state b (chars (drop next.0 text.now)) }
 {
     match b {
-        b'`' => Rule::Quoted(kind::BACKTICKED),
-        b'\'' => Rule::Quoted(kind::SINGLE_QUOTED),
-        b'"' => Rule::Quoted(kind::DOUBLE_QUOTED),
+        b'`' => Rule::Quoted(Kind::Backticked),
+        b'\'' => Rule::Quoted(Kind::SingleQuoted),
+        b'"' => Rule::Quoted(Kind::DoubleQuoted),
         b'#' => hash_rule(text, next),
         b'-' => dash_rule(text, next),
         b'/' => slash_rule(text, next),
-        b' ' => Rule::Single(kind::SPACE),
-        b'\n' => Rule::Single(kind::NEWLINE),
-        b'\r' => Rule::Single(kind::NEWLINE),
-        b'.' => Rule::Single(kind::DOT),
-        b',' => Rule::Single(kind::COMMA),
-        b'(' => Rule::Single(kind::PARENTHESE_OPEN),
-        b')' => Rule::Single(kind::PARENTHESE_CLOSE),
-        b'[' => Rule::Single(kind::SQUARE_BRACKET_OPEN),
-        b']' => Rule::Single(kind::SQUARE_BRACKET_CLOSE),
-        b':' => Rule::Single(kind::COLON),
-        b';' => Rule::Single(kind::SEMICOLON),
-        b'?' => Rule::Single(kind::PLACEHOLDER),
+        b' ' => Rule::Single(Kind::Space),
+        b'\n' => Rule::Single(Kind::Newline),
+        b'\r' => Rule::Single(Kind::Newline),
+        b'.' => Rule::Single(Kind::Dot),
+        b',' => Rule::Single(Kind::Comma),
+        b'(' => Rule::Single(Kind::ParentheseOpen),
+        b')' => Rule::Single(Kind::ParentheseClose),
+        b'[' => Rule::Single(Kind::SquareBracketOpen),
+        b']' => Rule::Single(Kind::SquareBracketClose),
+        b':' => Rule::Single(Kind::Colon),
+        b';' => Rule::Single(Kind::Semicolon),
+        b'?' => Rule::Single(Kind::Placeholder),
         b'$' => Rule::Numbered,
         b'*' => Rule::Single(star_kind(state)),
-        b'%' => Rule::Single(kind::MODULO),
-        b'+' => Rule::Single(kind::PLUS),
+        b'%' => Rule::Single(Kind::Modulo),
+        b'+' => Rule::Single(Kind::Plus),
         b'=' => Rule::Run,
         b'!' => Rule::Run,
         b'>' => Rule::Run,
@@ -164,11 +163,9 @@ fn ascii_rule(text: &[u8], next: Offset, b: u8, state: State) -> Rule
 fn wide_rule(text: &[u8], at: Offset) -> Rule
     ensures { result ≡ on_chars Rule.Unknown (λ c cs. others pinned c) (chars (drop at.0 text.now)) }
 {
-    let step = step_at(text, at);
-    match step {
+    match step_at(text, at) {
         Step::Char(c, _) => class_rule(c),
-        Step::Bad => Rule::Unknown,
-        Step::End => Rule::Unknown,
+        Step::Bad | Step::End => Rule::Unknown,
     }
 }
 

@@ -8,7 +8,7 @@ use Rattle.tokens.specs.Slots.{laid}
 use Rattle.tokens.proofs.Storing.{laid_none}
 use Rattle.tokens.specs.declared.slot.Slot.{Slot}
 use mathlib.Core.List.{List}
-use Rattle.lexer.specs.declared.lex.Walked.{Walked}
+use Rattle.lexer.specs.declared.lex.Lexed.{Lexed}
 use Rattle.scans.specs.Ways.{pinned}
 use Rattle.lexer.specs.Read.{reading, tokens}
 use Rattle.lexer.proofs.Turns.{tokens_few}
@@ -24,21 +24,22 @@ laid_all text slots before places u e after h =
 
 pub walk-counted-requires : goal.walk-counted-requires
 walk-counted-requires c =
-    record { table_value = (c.letter_table-table.ensures, c.mark_table-marks.ensures); whole = c.requires; upto_bound = omega arith }
+    record { whole = c.requires; upto_bound = omega arith }
 
 pub returns-then-places-needed : goal.returns-then-places-needed
 returns-then-places-needed c =
-    valid_refused c.args.text.now c.args.slots.now _ c.walk-counted.result.tokens (ap (λ (x : Walked). x.tokens) c.walk-counted.ensures.value)
-    (rw c.whole_slots-places.ensures at c.if-places-needed.true) (c.walk-counted.ensures.slots_after ∙ laid_none c.args.slots.now)
+    rw (ap (λ (x : Lexed). x.tokens) c.walk-counted.ensures.value)
+    (valid_refused c.args.text.now c.args.slots.now _ (omega (arith, c.whole_slots-places.ensures, ap (λ (x : Lexed). x.tokens) c.walk-counted.ensures.value))
+    (c.walk-counted.ensures.slots_after ∙ laid_none c.args.slots.now))
 
-pub walk-walked-requires : goal.walk-walked-requires
-walk-walked-requires c =
+pub walk-requires : goal.walk-requires
+walk-requires c =
     let unchanged : c.if-places-text.slots ≡ c.args.slots.now =
     elim c.if-places-text.branch [
       | then-places-text+else-places-needed w ↦ w.slots-is ∙ w.walk-counted.ensures.slots_after ∙ laid_none c.args.slots.now
       | else-places-text w ↦ w.slots-is
     ] in
-    record { table_value = (c.letter_table-table.ensures, c.mark_table-marks.ensures); whole = c.requires; upto_bound = rw unchanged (omega (arith, c.whole_slots-places.ensures)) }
+    record { whole = c.requires; upto_bound = rw unchanged (omega (arith, c.whole_slots-places.ensures)) }
 
 pub returns : goal.returns
 returns c =
@@ -51,9 +52,9 @@ returns c =
     ] in
     let enough : length (tokens (reading pinned t)) ≤ c.whole_slots-places.result =
     elim c.if-places-text.branch [
-      | then-places-text+else-places-needed w ↦ omega (arith, w.if-places-needed.false, ap (λ (x : Walked). x.tokens) w.walk-counted.ensures.value)
+      | then-places-text+else-places-needed w ↦ omega (arith, w.if-places-needed.false, ap (λ (x : Lexed). x.tokens) w.walk-counted.ensures.value)
       | else-places-text w ↦ omega (arith, w.if-places-text.false, tokens_few pinned t)
     ] in
-    valid_done t c.args.slots.now _ c.walk-walked.result.tokens c.walk-walked.result.stop (ap (λ (x : Walked). x.tokens) c.walk-walked.ensures.value)
-    (ap (λ (x : Walked). x.stop.0) c.walk-walked.ensures.value) (rw c.whole_slots-places.ensures at enough)
-    (laid_all t c.args.slots.now c.if-places-text.slots c.whole_slots-places.result unchanged enough c.walk-walked.new.slots c.walk-walked.ensures.slots_after)
+    rw c.walk.ensures.value
+    (valid_done t c.args.slots.now _ (rw c.whole_slots-places.ensures at enough)
+    (laid_all t c.args.slots.now c.if-places-text.slots c.whole_slots-places.result unchanged enough c.walk.new.slots c.walk.ensures.slots_after))

@@ -11,6 +11,7 @@ use lib.ListN.{get_or}
 use Rattle.scans.specs.Ways.{pinned}
 use Rattle.scans.specs.Whole.{Readable}
 use Rattle.chars.specs.Steps.{offset}
+use Rattle.tokens.specs.Named.{number}
 use Rattle.tokens.specs.Slots.{bare}
 use Rattle.scans.specs.Whole.{star_before}
 use Rattle.lexer.proofs.Marks.{mark_state, mark_read}
@@ -27,9 +28,6 @@ marked text at state i m e n =
 pub loop-at-init : goal.loop-at-init
 loop-at-init c = walking_start pinned c.args.text.now c.args.slots.now c.args.upto c.requires.whole
 
-pub mark_at-mark-requires : goal.mark_at-mark-requires
-mark_at-mark-requires c = record { table_value = c.requires.table_value.1; at_in_bounds = c.loop-at-test.true }
-
 pub keep-requires : goal.keep-requires
 keep-requires c = omega (arith, c.loop-at.invariant.long, c.requires.upto_bound)
 
@@ -39,39 +37,39 @@ overflow_add-at c = omega (arith, c.loop-at-test.true, c.loop-at.invariant.whole
 pub overflow_add-n : goal.overflow_add-n
 overflow_add-n c = omega (arith, c.loop-at.invariant.few, c.loop-at-test.true)
 
-pub loop-at-smaller-then-mark-ne-NONE : goal.loop-at-smaller-then-mark-ne-NONE
-loop-at-smaller-then-mark-ne-NONE c = omega (arith, c.loop-at-test.true)
+pub loop-at-smaller-in-Some : goal.loop-at-smaller-in-Some
+loop-at-smaller-in-Some c = omega (arith, c.loop-at-test.true)
 
-pub loop-at-preserved-then-mark-ne-NONE : goal.loop-at-preserved-then-mark-ne-NONE
-loop-at-preserved-then-mark-ne-NONE c =
-    let slot = bare c.mark_at-mark.result in
-    rw (c.keep.ensures, c.bare.ensures, ← mark_state (get_or c.args.text.now c.loop-at.at 0) c.loop-at.state, ← c.mark_at-mark.ensures)
+pub loop-at-preserved-in-Some : goal.loop-at-preserved-in-Some
+loop-at-preserved-in-Some c =
+    let slot = bare (number c.in-Some.mark) in
+    rw (c.keep.ensures, c.bare.ensures, ← mark_state (get_or c.args.text.now c.loop-at.at 0) c.loop-at.state, ← c.in-Some.ensures.0)
     (walking_more pinned c.args.text.now c.args.slots.now c.args.upto c.loop-at.slots c.loop-at.at c.loop-at.n c.loop-at.state c.loop-at.invariant
-    slot (c.loop-at.at + 1) (marked c.args.text.now c.loop-at.at c.loop-at.state record { here = c.loop-at-test.true; rest = c.loop-at.invariant.whole } c.mark_at-mark.result c.mark_at-mark.ensures c.if-mark-ne-NONE.true) c.requires.upto_bound (kept-length c.loop-at.slots c.args.upto c.loop-at.n slot))
+    slot (c.loop-at.at + 1) (marked c.args.text.now c.loop-at.at c.loop-at.state record { here = c.loop-at-test.true; rest = c.loop-at.invariant.whole } (number c.in-Some.mark) c.in-Some.ensures.0 (λ z. omega (arith, z, c.in-Some.ensures.0, c.in-Some.ensures.1))) c.requires.upto_bound (kept-length c.loop-at.slots c.args.upto c.loop-at.n slot))
 
-pub read_one-step-requires : goal.read_one-step-requires
-read_one-step-requires c = record { table_value = c.requires.table_value.0; readable = record { here = c.loop-at-test.true; rest = c.loop-at.invariant.whole } }
+pub read_one-requires : goal.read_one-requires
+read_one-requires c = record { here = c.loop-at-test.true; rest = c.loop-at.invariant.whole }
 
-pub keep-requires-in-Token : goal.keep-requires-in-Token
-keep-requires-in-Token c = omega (arith, c.loop-at.invariant.long, c.requires.upto_bound)
+pub keep-requires-in-loop-at : goal.keep-requires-in-loop-at
+keep-requires-in-loop-at c = omega (arith, c.loop-at.invariant.long, c.requires.upto_bound)
 
-pub overflow_add-n-in-Token : goal.overflow_add-n-in-Token
-overflow_add-n-in-Token c = omega (arith, c.loop-at.invariant.few, c.loop-at-test.true)
+pub overflow_add-n-in-loop-at : goal.overflow_add-n-in-loop-at
+overflow_add-n-in-loop-at c = omega (arith, c.loop-at.invariant.few, c.loop-at-test.true)
 
 pub loop-at-smaller : goal.loop-at-smaller
-loop-at-smaller c = let u = turn pinned c.args.text.now c.loop-at.at c.loop-at.state record { here = c.loop-at-test.true; rest = c.loop-at.invariant.whole } c.in-Token.slot c.in-Token.next (sym c.in-Token.is ∙ c.read_one-step.ensures) in omega (arith, u.further, u.whole.inside)
+loop-at-smaller c = let u = turn pinned c.args.text.now c.loop-at.at c.loop-at.state record { here = c.loop-at-test.true; rest = c.loop-at.invariant.whole } c.in-Some-read_one.taken.slot c.in-Some-read_one.taken.next (sym c.in-Some-read_one.is ∙ c.read_one.ensures) in omega (arith, u.further, u.whole.inside)
 
 pub loop-at-preserved : goal.loop-at-preserved
 loop-at-preserved c =
-    rw (c.keep-in-Token.ensures, c.state_after-state.ensures)
+    rw (c.keep-in-loop-at.ensures, c.state_after-state.ensures)
     (walking_more pinned c.args.text.now c.args.slots.now c.args.upto c.loop-at.slots c.loop-at.at c.loop-at.n c.loop-at.state c.loop-at.invariant
-    c.in-Token.slot c.in-Token.next.0 (turn pinned c.args.text.now c.loop-at.at c.loop-at.state record { here = c.loop-at-test.true; rest = c.loop-at.invariant.whole } c.in-Token.slot c.in-Token.next (sym c.in-Token.is ∙ c.read_one-step.ensures)) c.requires.upto_bound (kept-length c.loop-at.slots c.args.upto c.loop-at.n c.in-Token.slot))
+    c.in-Some-read_one.taken.slot c.in-Some-read_one.taken.next.0 (turn pinned c.args.text.now c.loop-at.at c.loop-at.state record { here = c.loop-at-test.true; rest = c.loop-at.invariant.whole } c.in-Some-read_one.taken.slot c.in-Some-read_one.taken.next (sym c.in-Some-read_one.is ∙ c.read_one.ensures)) c.requires.upto_bound (kept-length c.loop-at.slots c.args.upto c.loop-at.n c.in-Some-read_one.taken.slot))
 
-pub returns-in-Stopped : goal.returns-in-Stopped
-returns-in-Stopped c =
+pub returns-in_default-read_one : goal.returns-in_default-read_one
+returns-in_default-read_one c =
     let a = c.args in
     let t = a.text.now in
-    let e = turn_stop pinned t c.loop-at.at c.loop-at.state record { here = c.loop-at-test.true; rest = c.loop-at.invariant.whole } (sym c.in-Stopped.is ∙ c.read_one-step.ensures) in
+    let e = turn_stop pinned t c.loop-at.at c.loop-at.state record { here = c.loop-at-test.true; rest = c.loop-at.invariant.whole } (sym c.in_default-read_one.is ∙ c.read_one.ensures) in
     let v = c.loop-at.invariant in record {
       value = rw (
         all_read pinned t a.slots.now a.upto c.loop-at.slots c.loop-at.at c.loop-at.n c.loop-at.state v e,

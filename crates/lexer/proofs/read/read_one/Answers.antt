@@ -57,76 +57,76 @@ module _ (text : List ℕ) (at : ℕ) (state : State) (readable : Readable text 
           ∙ ap (λ (x : Rule). step_of at (c ∷ cs) (by_rule x pinned star c cs)) (sym (chosen c next p))
           ∙ one ∙ sym (read_at text at c next p (read_one pinned star state))
 
-pub rule_at-rule-requires : goal.rule_at-rule-requires
-rule_at-rule-requires c = c.requires.readable
+pub rule_at-requires : goal.rule_at-requires
+rule_at-requires c = c.requires
 
 pub read_quoted-requires : goal.read_quoted-requires
-read_quoted-requires c = ascii_led c.args.text.now c.args.at.0 c.args.state c.requires.readable c.rule_at-rule.result c.rule_at-rule.ensures _ c.in-Quoted.is (λ d ds h. h)
+read_quoted-requires c = ascii_led c.args.text.now c.args.at.0 c.args.state c.requires c.rule_at.result c.rule_at.ensures _ c.in-Quoted.is (λ d ds h. h)
 
 pub read_line-requires : goal.read_line-requires
-read_line-requires c = ascii_led c.args.text.now c.args.at.0 c.args.state c.requires.readable c.rule_at-rule.result c.rule_at-rule.ensures _ c.in-Line.is (λ d ds h. h)
+read_line-requires c = ascii_led c.args.text.now c.args.at.0 c.args.state c.requires c.rule_at.result c.rule_at.ensures _ c.in-Line.is (λ d ds h. h)
 
 pub read_block-requires : goal.read_block-requires
-read_block-requires c = ascii_led c.args.text.now c.args.at.0 c.args.state c.requires.readable c.rule_at-rule.result c.rule_at-rule.ensures _ c.in-Block.is (λ d ds h. h)
+read_block-requires c = ascii_led c.args.text.now c.args.at.0 c.args.state c.requires c.rule_at.result c.rule_at.ensures _ c.in-Block.is (λ d ds h. h)
 
 pub read_single-requires : goal.read_single-requires
-read_single-requires c = omega (arith, c.requires.readable.here, c.requires.readable.rest.small)
+read_single-requires c = omega (arith, c.requires.here, c.requires.rest.small)
 
 pub read_numbered-requires : goal.read_numbered-requires
-read_numbered-requires c = ascii_led c.args.text.now c.args.at.0 c.args.state c.requires.readable c.rule_at-rule.result c.rule_at-rule.ensures _ c.in-Numbered.is (λ d ds h. h)
+read_numbered-requires c = ascii_led c.args.text.now c.args.at.0 c.args.state c.requires c.rule_at.result c.rule_at.ensures _ c.in-Numbered.is (λ d ds h. h)
 
 pub read_run-requires : goal.read_run-requires
 read_run-requires c =
-    record { table_value = c.requires.table_value; ascii = ascii_led c.args.text.now c.args.at.0 c.args.state c.requires.readable c.rule_at-rule.result c.rule_at-rule.ensures _ c.in-Run.is (λ d ds h. h) }
+    ascii_led c.args.text.now c.args.at.0 c.args.state c.requires c.rule_at.result c.rule_at.ensures _ c.in-Run.is (λ d ds h. h)
 
 pub read_charset-requires : goal.read_charset-requires
-read_charset-requires c = ascii_led c.args.text.now c.args.at.0 c.args.state c.requires.readable c.rule_at-rule.result c.rule_at-rule.ensures _ c.in-Charset.is (λ d ds h. h)
+read_charset-requires c = ascii_led c.args.text.now c.args.at.0 c.args.state c.requires c.rule_at.result c.rule_at.ensures _ c.in-Charset.is (λ d ds h. h)
 
 pub read_word-requires : goal.read_word-requires
 read_word-requires c =
-    record { table_value = c.requires.table_value; leads = class_led c.args.text.now c.args.at.0 c.args.state c.requires.readable c.rule_at-rule.result c.rule_at-rule.ensures _ c.in-Word.is (starts_word pinned) (λ d ds h. h) }
+    class_led c.args.text.now c.args.at.0 c.args.state c.requires c.rule_at.result c.rule_at.ensures _ c.in-Word.is (starts_word pinned) (λ d ds h. h)
 
 pub read_number-requires : goal.read_number-requires
 read_number-requires c =
-    record { table_value = c.requires.table_value; leads = class_led c.args.text.now c.args.at.0 c.args.state c.requires.readable c.rule_at-rule.result c.rule_at-rule.ensures _ c.in-Number.is (starts_number pinned) (λ d ds h. h) }
+    class_led c.args.text.now c.args.at.0 c.args.state c.requires c.rule_at.result c.rule_at.ensures _ c.in-Number.is (starts_number pinned) (λ d ds h. h)
 
 pub returns-in-Quoted : goal.returns-in-Quoted
 unfolding by_rule
-returns-in-Quoted c = c.read_quoted.ensures ∙ ruled c.args.text.now c.args.at.0 c.args.state c.requires.readable c.rule_at-rule.result c.rule_at-rule.ensures _ c.in-Quoted.is
+returns-in-Quoted c = c.read_quoted.ensures ∙ ruled c.args.text.now c.args.at.0 c.args.state c.requires c.rule_at.result c.rule_at.ensures _ c.in-Quoted.is
 
 pub returns-in-Line : goal.returns-in-Line
 unfolding by_rule
-returns-in-Line c = c.read_line.ensures ∙ ruled c.args.text.now c.args.at.0 c.args.state c.requires.readable c.rule_at-rule.result c.rule_at-rule.ensures _ c.in-Line.is
+returns-in-Line c = c.read_line.ensures ∙ ruled c.args.text.now c.args.at.0 c.args.state c.requires c.rule_at.result c.rule_at.ensures _ c.in-Line.is
 
 pub returns-in-Block : goal.returns-in-Block
 unfolding by_rule
-returns-in-Block c = c.read_block.ensures ∙ ruled c.args.text.now c.args.at.0 c.args.state c.requires.readable c.rule_at-rule.result c.rule_at-rule.ensures _ c.in-Block.is
+returns-in-Block c = c.read_block.ensures ∙ ruled c.args.text.now c.args.at.0 c.args.state c.requires c.rule_at.result c.rule_at.ensures _ c.in-Block.is
 
 pub returns-in-Single : goal.returns-in-Single
 unfolding by_rule
 returns-in-Single c =
-    c.read_single.ensures ∙ single_read c.args.text.now c.args.at.0 (ascii_led c.args.text.now c.args.at.0 c.args.state c.requires.readable c.rule_at-rule.result c.rule_at-rule.ensures _ c.in-Single.is (λ d ds h. h)) _ ∙ ruled c.args.text.now c.args.at.0 c.args.state c.requires.readable c.rule_at-rule.result c.rule_at-rule.ensures _ c.in-Single.is
+    c.read_single.ensures ∙ single_read c.args.text.now c.args.at.0 (ascii_led c.args.text.now c.args.at.0 c.args.state c.requires c.rule_at.result c.rule_at.ensures _ c.in-Single.is (λ d ds h. h)) _ ∙ ruled c.args.text.now c.args.at.0 c.args.state c.requires c.rule_at.result c.rule_at.ensures _ c.in-Single.is
 
 pub returns-in-Numbered : goal.returns-in-Numbered
 unfolding by_rule
-returns-in-Numbered c = c.read_numbered.ensures ∙ ruled c.args.text.now c.args.at.0 c.args.state c.requires.readable c.rule_at-rule.result c.rule_at-rule.ensures _ c.in-Numbered.is
+returns-in-Numbered c = c.read_numbered.ensures ∙ ruled c.args.text.now c.args.at.0 c.args.state c.requires c.rule_at.result c.rule_at.ensures _ c.in-Numbered.is
 
 pub returns-in-Run : goal.returns-in-Run
 unfolding by_rule
-returns-in-Run c = c.read_run.ensures ∙ ruled c.args.text.now c.args.at.0 c.args.state c.requires.readable c.rule_at-rule.result c.rule_at-rule.ensures _ c.in-Run.is
+returns-in-Run c = c.read_run.ensures ∙ ruled c.args.text.now c.args.at.0 c.args.state c.requires c.rule_at.result c.rule_at.ensures _ c.in-Run.is
 
 pub returns-in-Charset : goal.returns-in-Charset
 unfolding by_rule
-returns-in-Charset c = c.read_charset.ensures ∙ ruled c.args.text.now c.args.at.0 c.args.state c.requires.readable c.rule_at-rule.result c.rule_at-rule.ensures _ c.in-Charset.is
+returns-in-Charset c = c.read_charset.ensures ∙ ruled c.args.text.now c.args.at.0 c.args.state c.requires c.rule_at.result c.rule_at.ensures _ c.in-Charset.is
 
 pub returns-in-Word : goal.returns-in-Word
 unfolding by_rule
-returns-in-Word c = c.read_word.ensures ∙ ruled c.args.text.now c.args.at.0 c.args.state c.requires.readable c.rule_at-rule.result c.rule_at-rule.ensures _ c.in-Word.is
+returns-in-Word c = c.read_word.ensures ∙ ruled c.args.text.now c.args.at.0 c.args.state c.requires c.rule_at.result c.rule_at.ensures _ c.in-Word.is
 
 pub returns-in-Number : goal.returns-in-Number
 unfolding by_rule
-returns-in-Number c = c.read_number.ensures ∙ ruled c.args.text.now c.args.at.0 c.args.state c.requires.readable c.rule_at-rule.result c.rule_at-rule.ensures _ c.in-Number.is
+returns-in-Number c = c.read_number.ensures ∙ ruled c.args.text.now c.args.at.0 c.args.state c.requires c.rule_at.result c.rule_at.ensures _ c.in-Number.is
 
 pub returns-in-Unknown : goal.returns-in-Unknown
 unfolding by_rule
-returns-in-Unknown c = c.read_unknown.ensures ∙ ruled c.args.text.now c.args.at.0 c.args.state c.requires.readable c.rule_at-rule.result c.rule_at-rule.ensures _ c.in-Unknown.is
+returns-in-Unknown c = c.read_unknown.ensures ∙ ruled c.args.text.now c.args.at.0 c.args.state c.requires c.rule_at.result c.rule_at.ensures _ c.in-Unknown.is

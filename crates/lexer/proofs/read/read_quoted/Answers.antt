@@ -2,6 +2,7 @@
 use native.Mathlib.Omega.{arith}
 use lib.ListN.{get_or}
 use Rattle.scans.specs.Scans.{quote_len}
+use Rattle.tokens.specs.Named.{number}
 use Rattle.lexer.proofs.Steps.{after_whole, after_small, end_small, quoted_closed, quoted_open}
 use Rattle.lexer.proofs.read.read_quoted.Goals as goal
 
@@ -23,7 +24,7 @@ overflow_add-result c = omega arith
 
 pub returns-then-end-text : goal.returns-then-end-text
 returns-then-end-text c =
-    rw c.part.ensures (quoted_closed c.args.text.now c.args.at.0 c.requires c.args.kind c.quote_end-end.result c.quote_end-end.ensures c.if-end-text.true)
+    rw c.part.ensures (quoted_closed c.args.text.now c.args.at.0 c.requires (number c.args.kind) c.quote_end-end.result c.quote_end-end.ensures c.if-end-text.true)
 
 pub part-requires-2 : goal.part-requires-2
 part-requires-2 c =
@@ -31,4 +32,4 @@ part-requires-2 c =
 
 pub returns : goal.returns
 returns c =
-    rw c.part-2.ensures (quoted_open c.args.text.now c.args.at.0 c.requires c.args.kind c.quote_end-end.result c.quote_end-end.ensures c.if-end-text.false)
+    rw c.part-2.ensures (quoted_open c.args.text.now c.args.at.0 c.requires (number c.args.kind) c.quote_end-end.result c.quote_end-end.ensures c.if-end-text.false)

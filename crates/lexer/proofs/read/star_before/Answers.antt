@@ -2,14 +2,14 @@
 use mathlib.Core.Path.{◌≡◌, refl}
 use native.Mathlib.Omega.{arith}
 use Prim.Native.Nat.{ℕ, zero, suc, ◌-◌}
-use mathlib.Core.Bool.{false}
+use mathlib.Core.Bool.{not}
 use mathlib.Core.List.{List}
 use lib.Dec.{eqb}
 use lib.ListN.{get_or}
 use Rattle.scans.specs.Whole.{star_before}
 use Rattle.lexer.proofs.read.star_before.Goals as goal
 
-first : (t : List ℕ) (n : ℕ) → n ≡ 0 → false ≡ star_before t n
+first : (t : List ℕ) (n : ℕ) → n ≡ 0 → not (eqb n 0) ≡ star_before t n
 unfolding star_before
 first t n e = rw e
 
@@ -18,14 +18,8 @@ unfolding star_before
 later t zero h = absurd (h refl)
 later t (suc n) h = let e : suc n - 1 ≡ n = omega arith in rw e
 
-pub returns-then-i-eq0 : goal.returns-then-i-eq0
-returns-then-i-eq0 c = first c.args.text.now c.args.at.0 c.if-i-eq0.true
+pub returns-else-i-ne0 : goal.returns-else-i-ne0
+returns-else-i-ne0 c = first c.args.text.now c.args.at.0 (omega arith)
 
-pub overflow_sub-result : goal.overflow_sub-result
-overflow_sub-result c = omega arith
-
-pub bounds-text-i : goal.bounds-text-i
-bounds-text-i c = omega arith
-
-pub returns : goal.returns
-returns c = later c.args.text.now c.args.at.0 c.if-i-eq0.false
+pub returns-then-i-ne0 : goal.returns-then-i-ne0
+returns-then-i-ne0 c = later c.args.text.now c.args.at.0 c.if-i-ne0.true
