@@ -9,10 +9,10 @@ pub returns-then-text-gt-LONGEST : goal.returns-then-text-gt-LONGEST
 unfolding known_kind
 returns-then-text-gt-LONGEST c = lookup_long (map lower c.args.text.now) c.args.sort (omega (arith, length-map c.args.text.now lower))
 
-pub returns-in_err-guess : goal.returns-in_err-guess
-returns-in_err-guess c = rw c.from_residual.ensures (no_guess c.args.sort c.args.text.now c.key_of.result c.key_of.ensures c.in_err-guess.ensures)
+pub returns-in_err-row : goal.returns-in_err-row
+returns-in_err-row c = rw c.from_residual.ensures (no_guess c.args.sort c.args.text.now c.key_of.result c.key_of.ensures c.in_err-row.ensures)
 
 pub returns : goal.returns
 returns c =
     rw c.then_some.ensures
-    (answered c.args.sort c.args.text.now c.key_of.result c.in_ok-guess.guess c.eq_ignore_ascii_case.result c.key_of.ensures c.in_ok-guess.ensures c.eq_ignore_ascii_case.ensures.test)
+    (answered c.args.sort c.args.text.now c.key_of.result c.in_ok-row.field-0 c.eq_ignore_ascii_case.result c.key_of.ensures c.in_ok-row.ensures c.eq_ignore_ascii_case.ensures.test)
