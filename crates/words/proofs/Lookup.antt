@@ -12,7 +12,7 @@ use mathlib.Core.List.{List, [], ◌∷◌, map}
 use Rattle.std.specs.Prelude.{Option, None, Some, ◌↔◌}
 use Rattle.std.specs.Option.{option_map}
 use Rattle.std.specs.List.{starts_with}
-use Prim.Native.Nat.{ℕ, zero, suc, ◌+◌, ◌≤◌, ◌<◌}
+use Prim.Native.Nat.{ℕ, zero, suc, ◌+◌, ◌<◌}
 use Prim.Native.Char.{code}
 use native.Mathlib.Omega.{arith}
 use lib.Dec.{eqb, leb}
@@ -153,20 +153,20 @@ lower_all [] = refl
 lower_all (c ∷ l) = rw (lower_same c, lower_all l)
 
 -- what the lookup answers of a text whose guess is the row k, where b says that it has the row's text
-pub answered : (sort : Sort) (text : List ℕ) (k : Known) (b : Bool) → option_map as_row (Some k) ≡ guess_of sort (key_of (map lower text))
-    → ((b ≡ true) ↔ (map to_ascii_lowercase text ≡ map to_ascii_lowercase k.text.now))
-    → Finds (known_kind sort text) (then_some b k.kind)
+pub answered : (sort : Sort) (text : List ℕ) (v : ℕ) (k : Known) (b : Bool) → v ≡ key_of (map lower text) → option_map as_row (Some k) ≡ guess_of sort v
+    → ((b ≡ true) ↔ (map to_ascii_lowercase text ≡ map to_ascii_lowercase k.0.now))
+    → Finds (known_kind sort text) (then_some b k.1)
 unfolding known_kind
-answered sort text k b e same = rw searched (go b refl (equal (map lower text) row) refl)
+answered sort text v k b key e same = rw searched (go b refl (equal (map lower text) row) refl)
   where
     row : List ℕ
-    row = k.text.now
+    row = k.0.now
 
     name : Named (as_row k)
-    name = named sort (key_of (map lower text)) (as_row k) e
+    name = named sort v (as_row k) e
 
-    searched : find (rows_of sort) (map lower text) ≡ cond (equal (map lower text) row) (number k.kind) kind.None
-    searched = lookup_is (map lower text) sort ∙ ap (confirmed (map lower text)) (sym e)
+    searched : find (rows_of sort) (map lower text) ≡ cond (equal (map lower text) row) (number k.1) kind.None
+    searched = lookup_is (map lower text) sort ∙ ap (confirmed (map lower text)) (sym (e ∙ ap (guess_of sort) key))
 
     low : map to_ascii_lowercase text ≡ map lower text
     low = lower_all text
@@ -174,7 +174,7 @@ answered sort text k b e same = rw searched (go b refl (equal (map lower text) r
     row_low : map to_ascii_lowercase row ≡ row
     row_low = lower_all row ∙ name.low
 
-    go : (y : Bool) → b ≡ y → (x : Bool) → equal (map lower text) row ≡ x → Finds (cond x (number k.kind) kind.None) (then_some y k.kind)
+    go : (y : Bool) → b ≡ y → (x : Bool) → equal (map lower text) row ≡ x → Finds (cond x (number k.1) kind.None) (then_some y k.1)
     go true p true q = (refl, name.kinded)
     go true p false q =
         let h : map lower text ≡ row = sym low ∙ same.0 p ∙ row_low in
@@ -186,9 +186,9 @@ answered sort text k b e same = rw searched (go b refl (equal (map lower text) r
     go false p false q = refl
 
 -- nothing is known that has no guess
-pub no_guess : (sort : Sort) (text : List ℕ) → None ≡ guess_of sort (key_of (map lower text)) → known_kind sort text ≡ kind.None
+pub no_guess : (sort : Sort) (text : List ℕ) (v : ℕ) → v ≡ key_of (map lower text) → None ≡ guess_of sort v → known_kind sort text ≡ kind.None
 unfolding known_kind
-no_guess sort text e = lookup_is (map lower text) sort ∙ ap (confirmed (map lower text)) (sym e)
+no_guess sort text v key e = lookup_is (map lower text) sort ∙ ap (confirmed (map lower text)) (sym (e ∙ ap (guess_of sort) key))
 
 -- ---- the beginnings of numbers
 lower-not : (b : ℕ) → (b ≡ code "0" → ⊥) → lower b ≡ code "0" → ⊥

@@ -112,7 +112,7 @@ known = words ++ runs ++ zeros
 -- ---- how the code keeps the table
 -- a row of the code, as a row of the definition
 abbrev pub as_row : Known → Row
-as_row k = record { text = k.text.now; kind = number k.kind }
+as_row k = record { text = k.0.now; kind = number k.1 }
 
 -- the length of a text and its first two letters, as one number
 abbrev pub key_of : List ℕ → ℕ

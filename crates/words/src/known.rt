@@ -5,6 +5,7 @@ ghost use Rattle.tokens.specs.Named.{Finds};
 ghost use Rattle.words.specs.Known.{lower, key_of, known_kind};
 
 use crate::guess::{Sort, guess_row};
+use crate::table::Known;
 use tokens::kind::Kind;
 
 // How many letters the longest row has.
@@ -32,9 +33,8 @@ pub fn known_kind(sort: Sort, text: &[u8]) -> Option<Kind>
     if LONGEST < text.len() {
         return None;
     }
-    let guess = guess_row(sort, key_of(text))?;
-    text.eq_ignore_ascii_case(guess.text)
-        .then_some(guess.kind)
+    let Known(row, kind) = guess_row(sort, key_of(text))?;
+    text.eq_ignore_ascii_case(row).then_some(kind)
 }
 
 // Rule 10: the kind of the beginning of a number. Most numbers are none by their first byte.
