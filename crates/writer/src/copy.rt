@@ -13,12 +13,9 @@ pub fn put(out: &mut [u8], at: usize, src: &[u8]) -> usize
     requires { at + length src.now ≤ length out.old }
     ensures { Put out.old at src.now result out.new }
 {
-    let mut j = 0;
-    while j < src.len() {
-        out[at + j] = src[j];
-        j += 1;
-    }
-    at + j
+    let end = at + src.len();
+    out[at..end].copy_from_slice(src);
+    end
 }
 
 // One byte.
@@ -35,11 +32,10 @@ pub fn put_mark(out: &mut [u8], at: usize, kind: u32) -> usize
     requires { (kind < kinds.Ellipsis) × (at + length (text_of kind) ≤ length out.old) }
     ensures { Put out.old at (text_of kind) result out.new }
 {
-    let byte = mark(kind);
-    if byte == 0 {
-        return at;
+    match mark(kind) {
+        Some(byte) => put_byte(out, at, byte),
+        None => at,
     }
-    put_byte(out, at, byte)
 }
 
 // The fixed text of a kind. Equal is the one frequent text of one byte that is no mark.

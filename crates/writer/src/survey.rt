@@ -5,22 +5,15 @@ ghost use Rattle.tokens.specs.Checks.{◌then◌, check_form};
 ghost use Rattle.tokens.specs.Slots.{room, tokens_in};
 ghost use Rattle.tokens.specs.Formed.{first_place};
 ghost use Rattle.writer.specs.Promise.{check_cuts};
-ghost use Rattle.writer.specs.Survey.{digits, faulty, Surveyed};
+ghost use Rattle.writer.specs.Survey.{faulty, Surveyed};
 
 use crate::cut::is_cut;
-use crate::token::{KINDS, token_len};
+use crate::token::token_len;
 use tokens::formed::{carries_offsets, first_malformed, is_well_formed};
 use tokens::kind;
 use tokens::place::Place;
 use tokens::refusal::Refusal;
 use tokens::slot::{Slot, slot_at};
-
-// The first token that may not be written, or the count; and the length of the text before it.
-#[derive(Clone, Copy)]
-pub struct Seen {
-    pub place: Place,
-    pub total: usize,
-}
 
 // Whether a token is not well formed or cuts a character. The kinds before Other first, which are the most frequent.
 fn is_faulty(text: &[u8], slot: Slot) -> bool
@@ -36,28 +29,20 @@ fn is_faulty(text: &[u8], slot: Slot) -> bool
     !is_well_formed(slot)
 }
 
-// The pass, which stops at the first token that may not be written.
-pub fn survey(table: &[u8; KINDS], text: &[u8], slots: &[u32], count: usize) -> Seen
-    requires { (table.now ≡ digits) × (length text.now ≤ limit) × (count ≤ limit) × (count ≤ room slots.now) }
+// The length of the whole text, or the place of the first token that may not be written.
+pub fn survey(text: &[u8], slots: &[u32], count: usize) -> Result<usize, Place>
+    requires { (length text.now ≤ limit) × (count ≤ limit) × (count ≤ room slots.now) }
     ensures { Surveyed text.now slots.now count result }
 {
     let mut total = 0;
-    let mut i = 0;
-    while i < count {
+    for i in 0..count {
         let slot = slot_at(slots, Place(i));
         if is_faulty(text, slot) {
-            return Seen {
-                place: Place(i),
-                total,
-            };
+            return Err(Place(i));
         }
-        total += token_len(table, text, slot);
-        i += 1;
+        total += token_len(text, slot);
     }
-    Seen {
-        place: Place(i),
-        total,
-    }
+    Ok(total)
 }
 
 // Why a list is refused whose first token that may not be written is at a place: 5 where any token is not well formed, before it or

@@ -13,7 +13,7 @@ use Rattle.writer.specs.Written.{slice_of, token_text}
 use Rattle.writer.proofs.Puts.{put_as, put_then}
 use Rattle.writer.proofs.ByKind.{text_quoted, text_charset, text_other, text_slice, text_unknown, text_fixed, formed_scalar}
 use Rattle.writer.proofs.token.put_token.Goals as goal
-use Rattle.writer.proofs.token.put_token.Goals.{in_default-via-then-kind-lt76, in_default-via-else-kind-lt76+else-kind-lt80+else-kind-lt83}
+use Rattle.writer.proofs.token.put_token.Goals.{in-66-1, in_default+else-kind-lt76+else-kind-lt80+then-kind-lt83, in_default-via-then-kind-lt76, in_default-via-else-kind-lt76+else-kind-lt80+else-kind-lt83}
 
 -- the marks have their fixed text
 marked : (text : List ℕ) (t : Slot) → t.kind < kind.Ellipsis → token_text text t ≡ text_of t.kind
@@ -45,7 +45,12 @@ put-requires c =
 pub put-requires-in-66 : goal.put-requires-in-66
 put-requires-in-66 c =
     let x = c.args in
-    omega (arith, ap length c.slice_of-in-66.ensures, ap length (text_other x.text.now x.slot c.in-66.is))
+    let e = c.slice_of-in-66.ensures in
+    elim c.in-66-1.branch [
+      | in-66-1 w ↦ omega (arith, ap length e, ap length (text_other x.text.now x.slot (omega arith)))
+      | in_default+else-kind-lt76+else-kind-lt80+then-kind-lt83 w ↦
+          omega (arith, ap length e, ap length (text_slice x.text.now x.slot (omega arith) (omega arith)))
+    ]
 
 pub put_char-requires : goal.put_char-requires
 put_char-requires c =
@@ -60,11 +65,6 @@ put_quoted-requires c =
       backticked_le_kind = (omega arith, omega arith);
       kind_in_bounds = omega (arith, ap length (text_quoted x.text.now x.slot (omega arith) (omega arith)));
     }
-
-pub put-requires-in-80-to-82 : goal.put-requires-in-80-to-82
-put-requires-in-80-to-82 c =
-    let x = c.args in
-    omega (arith, ap length c.slice_of-in-80-to-82.ensures, ap length (text_slice x.text.now x.slot (omega arith) (omega arith)))
 
 pub put_fixed-requires : goal.put_fixed-requires
 put_fixed-requires c =
@@ -85,7 +85,12 @@ returns-in-76 c =
 pub returns-in-66 : goal.returns-in-66
 returns-in-66 c =
     let x = c.args in
-    put_as (text_other x.text.now x.slot c.in-66.is ∙ sym c.slice_of-in-66.ensures) c.put-in-66.ensures
+    let e = sym c.slice_of-in-66.ensures in
+    elim c.in-66-1.branch [
+      | in-66-1 w ↦ put_as (text_other x.text.now x.slot (omega arith) ∙ e) c.put-in-66.ensures
+      | in_default+else-kind-lt76+else-kind-lt80+then-kind-lt83 w ↦
+          put_as (text_slice x.text.now x.slot (omega arith) (omega arith) ∙ e) c.put-in-66.ensures
+    ]
 
 pub returns-in-83 : goal.returns-in-83
 returns-in-83 c =
@@ -96,11 +101,6 @@ pub returns-in-77-to-79 : goal.returns-in-77-to-79
 returns-in-77-to-79 c =
     let x = c.args in
     put_as (text_quoted x.text.now x.slot (omega arith) (omega arith)) c.put_quoted.ensures
-
-pub returns-in-80-to-82 : goal.returns-in-80-to-82
-returns-in-80-to-82 c =
-    let x = c.args in
-    put_as (text_slice x.text.now x.slot (omega arith) (omega arith) ∙ sym c.slice_of-in-80-to-82.ensures) c.put-in-80-to-82.ensures
 
 pub returns-in_default : goal.returns-in_default
 returns-in_default c =

@@ -7,21 +7,15 @@ use Rattle.writer.proofs.ByKind.{len_unknown, content_small}
 use Rattle.writer.proofs.Surveying.{beside_small, len_carries, len_fixed}
 use Rattle.writer.proofs.token.token_len.Goals as goal
 
-pub beside_of-requires : goal.beside_of-requires
-beside_of-requires c = c.requires.0
-
 pub returns-then-kind-lt-OTHER : goal.returns-then-kind-lt-OTHER
 returns-then-kind-lt-OTHER c =
     let x = c.args in
     c.beside_of.ensures ∙ len_fixed x.text.now x.slot (carries_low _ (omega arith) (omega arith)) (omega arith)
 
-pub beside_of-requires-then-carries_offsets : goal.beside_of-requires-then-carries_offsets
-beside_of-requires-then-carries_offsets c = c.requires.0
-
 pub overflow_add-result : goal.overflow_add-result
 overflow_add-result c =
     let x = c.args in
-    omega (arith, c.requires.1, ap length c.slice_of.ensures, content_small x.text.now x.slot.first x.slot.second, c.beside_of-then-carries_offsets.ensures, beside_small x.slot.kind)
+    omega (arith, c.requires, ap length c.slice_of.ensures, content_small x.text.now x.slot.first x.slot.second, c.beside_of-then-carries_offsets.ensures, beside_small x.slot.kind)
 
 pub returns-then-carries_offsets : goal.returns-then-carries_offsets
 returns-then-carries_offsets c =
@@ -31,9 +25,6 @@ returns-then-carries_offsets c =
 
 pub returns-then-kind-eq-UNKNOWN : goal.returns-then-kind-eq-UNKNOWN
 returns-then-kind-eq-UNKNOWN c = let x = c.args in c.width_of.ensures ∙ len_unknown x.text.now x.slot c.if-kind-eq-UNKNOWN.true
-
-pub beside_of-requires-2 : goal.beside_of-requires-2
-beside_of-requires-2 c = c.requires.0
 
 pub returns : goal.returns
 returns c =
