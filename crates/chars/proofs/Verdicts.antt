@@ -5,15 +5,15 @@
 use mathlib.Core.Path.{◌≡◌, refl}
 use mathlib.Core.Option.{Option, none, some}
 use Prim.Native.Nat.{ℕ}
-use Rattle.chars.specs.declared.offset.Offset.{Offset}
-use Rattle.chars.specs.declared.utf8.Verdict.TheVariants.{Valid, BadAt}
+use Rattle.std.specs.Prelude.{Ok, Err}
+use Rattle.chars.specs.declared.utf8.BadAt.{BadAt}
 use Rattle.chars.specs.Steps.{offset, verdict_of}
 use Rattle.chars.proofs.Scalars.{clash}
 
-pub verdict_valid : (o : Option ℕ) → verdict_of o ≡ Valid → o ≡ none
+pub verdict_valid : (o : Option ℕ) → verdict_of o ≡ Ok tt → o ≡ none
 verdict_valid none e = refl
 verdict_valid (some at) e = clash (cc)
 
-pub verdict_bad : (o : Option ℕ) (at : Offset) → verdict_of o ≡ BadAt at → o ≡ some at.0
-verdict_bad none at e = clash (cc)
-verdict_bad (some n) at e = let z : offset n ≡ at = cc in rw (← z)
+pub verdict_bad : (o : Option ℕ) (b : BadAt) → verdict_of o ≡ Err b → o ≡ some b.0.0
+verdict_bad none b e = clash (cc)
+verdict_bad (some n) b e = let z : ◌≡◌ {A = BadAt} (record { 0 = offset n }) b = cc in rw (← z)

@@ -1,13 +1,12 @@
 -- How the code answers: a step at an offset, and the verdict on a text, by the definitions of Utf8.antt.
 -- Assumes nothing.
-use Rattle.std.specs.Prelude.{◌≡◌, ℕ, suc, ◌+◌, ◌≤◌, Bool, true, cond, ◌&&◌, ◌||◌, List, eqb, leb, ltb, length, drop}
+use Rattle.std.specs.Prelude.{◌≡◌, ℕ, suc, ◌+◌, ◌≤◌, Bool, true, cond, ◌&&◌, ◌||◌, List, eqb, leb, ltb, length, drop, Result, Ok, Err}
 use Rattle.std.specs.Bool.{beq}
 use Rattle.std.proofs.Math.Option.{Option, none, some}
 use Rattle.chars.specs.declared.offset.Offset.{Offset}
 use Rattle.chars.specs.declared.utf8.Step.{Step}
 use Rattle.chars.specs.declared.utf8.Step.TheVariants.{Char, Bad, End}
-use Rattle.chars.specs.declared.utf8.Verdict.{Verdict}
-use Rattle.chars.specs.declared.utf8.Verdict.TheVariants.{Valid, BadAt}
+use Rattle.chars.specs.declared.utf8.BadAt.{BadAt}
 use Rattle.chars.specs.Utf8.{Front, char, bad, end, front, follows, bad_from, first_bad}
 
 -- a number of bytes, as an offset
@@ -25,9 +24,9 @@ unfoldable pub step_at : List ℕ → Offset → Step
 step_at text at = placed (at.0 + 1) (front (drop at.0 text))
 
 -- no bad byte, or the offset of the first
-abbrev pub verdict_of : Option ℕ → Verdict
-verdict_of none = Valid
-verdict_of (some at) = BadAt (offset at)
+abbrev pub verdict_of : Option ℕ → Result (Unit {0}) BadAt
+verdict_of none = Ok tt
+verdict_of (some at) = Err (record { 0 = offset at })
 
 -- ---- what the private functions answer, on the way there
 -- the scalar value at the front; 0 where no character starts

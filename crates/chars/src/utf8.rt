@@ -14,12 +14,9 @@ pub enum Step {
     End,
 }
 
-// Whether a text is valid; where it is not, the first byte of the first bad sequence.
-#[derive(Clone, Copy)]
-pub enum Verdict {
-    Valid,
-    BadAt(Offset),
-}
+// The first byte of the first bad sequence.
+#[derive(Clone, Copy, PartialEq, Eq, Debug)]
+pub struct BadAt(pub Offset);
 
 // A scalar value: up to U+10FFFF, and no surrogate.
 pub fn is_scalar(c: u32) -> bool
@@ -265,19 +262,19 @@ fn settle_blocks(text: &[u8]) -> usize
 }
 
 // The check of a whole text: one that is all ASCII is settled at once, another by blocks, and what they leave is passed by widths.
-pub fn validate(text: &[u8]) -> Verdict
+pub fn validate(text: &[u8]) -> Result<(), BadAt>
     ensures { result ≡ verdict_of (first_bad text.now) }
 {
     if any_bits(text) < 0x80 {
-        return Verdict::Valid;
+        return Ok(());
     }
     let mut at = settle_blocks(text);
     while at < text.len() {
         let width = width_at(text, at);
         if width == 0 {
-            return Verdict::BadAt(Offset(at));
+            return Err(BadAt(Offset(at)));
         }
         at += width;
     }
-    Verdict::Valid
+    Ok(())
 }

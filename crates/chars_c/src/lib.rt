@@ -8,6 +8,7 @@ ghost use Rattle.chars.specs.Steps.{step_at, offset};
 ghost use Rattle.chars_c.specs.Outside.{up_to, numbers};
 
 use chars::offset::Offset;
+use chars::utf8::BadAt;
 
 #[unsafe(no_mangle)]
 pub extern "C" fn hay_is_alphabetic(c: u32) -> bool
@@ -28,10 +29,9 @@ pub extern "C" fn hay_is_numeric(c: u32) -> bool
 pub extern "C" fn hay_valid_up_to(text: &[u8]) -> usize
     ensures { result ≡ up_to (length text.now) (first_bad text.now) }
 {
-    let verdict = chars::utf8::validate(text);
-    match verdict {
-        chars::utf8::Verdict::Valid => text.len(),
-        chars::utf8::Verdict::BadAt(at) => at.0,
+    match chars::utf8::validate(text) {
+        Ok(()) => text.len(),
+        Err(BadAt(at)) => at.0,
     }
 }
 

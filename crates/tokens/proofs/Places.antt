@@ -6,6 +6,8 @@
 -- place_more      one more token that fails
 -- place_found     the token after those that fail passes
 -- place_none      it is the length: each token fails
+-- below_there, below_past   place_below by the order of its numbers
+-- below_some, below_none    and what its answer says of them
 -- Assumes nothing.
 use mathlib.Core.Path.{◌≡◌, refl, sym, ap, ◌∙◌}
 use mathlib.Core.Bool.{Bool, true, false, cond}
@@ -13,10 +15,15 @@ use mathlib.Core.List.{List, [], ◌∷◌, ◌++◌}
 use Prim.Native.Nat.{ℕ, zero, suc, ◌+◌, ◌-◌, ◌≤◌, ◌<◌}
 use native.Mathlib.Nat.{zero-add, add-zero, suc-add}
 use native.Mathlib.Omega.{arith}
+use lib.Dec.{ltb}
 use lib.ListN.{length, get_or}
+use borrow.Author.Tests.{lt-ltb, le-ltb, ltb-true, ltb-false}
+use Rattle.std.specs.Prelude.{Option, Some, None}
 use Rattle.tokens.specs.declared.slot.Slot.{Slot}
 use Rattle.tokens.specs.Slots.{slot_at, tokens_from, tokens_in}
-use Rattle.tokens.specs.Formed.{first_place}
+use Rattle.chars.proofs.Scalars.{clash}
+use Rattle.tokens.specs.declared.place.Place.{Place}
+use Rattle.tokens.specs.Formed.{first_place, place_below}
 use Rattle.tokens.proofs.Storing.{length-tokens, tokens_more, tokens-at}
 
 module _ (p : Slot → Bool) where
@@ -87,3 +94,24 @@ module _ (p : Slot → Bool) where
       go true q e i l ih = absurd (omega arith)
       go false q e zero l ih = q
       go false q e (suc i) l ih = ih (omega arith) i (omega arith)
+
+module _ (n p : ℕ) where
+  pub below_there : p < n → place_below n p ≡ Some (record { 0 = p })
+  below_there h = rw (lt-ltb p n h)
+
+  pub below_past : n ≤ p → place_below n p ≡ None
+  below_past h = rw (le-ltb p n h)
+
+  pub below_some : (q : Place) → place_below n p ≡ Some q → (p < n) × (q.0 ≡ p)
+  below_some q e = go (ltb p n) refl e
+    where
+      go : (b : Bool) → ltb p n ≡ b → cond {A = Option Place} b (Some (record { 0 = p })) None ≡ Some q → (p < n) × (q.0 ≡ p)
+      go true t f = (ltb-true p n t, cc)
+      go false t f = clash (cc)
+
+  pub below_none : place_below n p ≡ None → n ≤ p
+  below_none e = go (ltb p n) refl e
+    where
+      go : (b : Bool) → ltb p n ≡ b → cond {A = Option Place} b (Some (record { 0 = p })) None ≡ None → n ≤ p
+      go true t f = clash (cc)
+      go false t f = ltb-false p n t

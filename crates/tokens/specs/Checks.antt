@@ -1,11 +1,10 @@
 -- The checks of document 01, "Refusal numbers", each over the whole input before the next; the first that applies is the answer.
 -- Assumes nothing.
-use Rattle.std.specs.Prelude.{cond, ◌||◌, List, [], ℕ, ltb, length}
+use Rattle.std.specs.Prelude.{cond, ◌||◌, List, [], ℕ, ltb, length, Result, Ok, Err}
 use Rattle.std.proofs.Math.Option.{Option, none, some}
 use Rattle.chars.specs.Utf8.{first_bad}
 use Rattle.tokens.specs.declared.slot.Slot.{Slot}
-use Rattle.tokens.specs.declared.check.Checked.{Checked}
-use Rattle.tokens.specs.declared.check.Checked.TheVariants.{Fine, Refused}
+use Rattle.tokens.specs.declared.refusal.Refusal.{Refusal}
 use Rattle.tokens.specs.Answers.{Answer, done, refused, limit, refusal, text_too_long, not_utf8, bad_count, bad_token}
 use Rattle.tokens.specs.Slots.{room}
 use Rattle.tokens.specs.Formed.{first_place, malformed}
@@ -43,6 +42,6 @@ afterwards (done ns) written before = written
 afterwards (refused k d) written before = before
 
 -- the code's answer to a check
-abbrev pub checked : Checked → Answer
-checked Fine = fine
-checked (Refused r) = refusal r
+abbrev pub checked : Result (Unit {0}) Refusal → Answer
+checked (Ok _) = fine
+checked (Err why) = refusal why

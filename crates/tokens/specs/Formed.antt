@@ -1,6 +1,7 @@
 -- Which slots are well formed, and the first place in a list that passes a test. Assumes nothing.
-use Rattle.std.specs.Prelude.{Bool, true, cond, not, ◌&&◌, ◌||◌, List, [], ◌∷◌, ℕ, suc, eqb, leb, ltb}
+use Rattle.std.specs.Prelude.{Bool, true, cond, not, ◌&&◌, ◌||◌, List, [], ◌∷◌, ℕ, suc, eqb, leb, ltb, Option, Some, None}
 use Rattle.chars.specs.Utf8.{is_scalar}
+use Rattle.tokens.specs.declared.place.Place.{Place}
 use Rattle.tokens.specs.declared.slot.Slot.{Slot}
 use Rattle.tokens.specs.Kinds as kind
 
@@ -23,3 +24,7 @@ malformed t = not (well_formed t)
 unfoldable pub first_place : (Slot → Bool) → List Slot → ℕ
 first_place p [] = 0
 first_place p (t ∷ ts) = cond (p t) 0 (suc (first_place p ts))
+
+-- a place below n, as the code answers it: none, where n has been reached
+abbrev pub place_below : ℕ → ℕ → Option Place
+place_below n p = cond (ltb p n) (Some (record { 0 = p })) None

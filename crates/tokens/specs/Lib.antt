@@ -5,5 +5,4 @@ pub mod Content
 pub mod Answers
 pub mod Checks
 pub mod Texts
-pub mod Fixed
 pub mod Tabled

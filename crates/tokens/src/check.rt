@@ -6,54 +6,40 @@ ghost use Rattle.tokens.specs.Checks.{◌then◌, check_text, check_count, check
 use crate::formed::first_malformed;
 use crate::refusal::{LIMIT, Refusal};
 use crate::slot::whole_slots;
-use chars::utf8::{Verdict, validate};
-
-#[derive(Clone, Copy)]
-pub enum Checked {
-    Fine,
-    Refused(Refusal),
-}
+use chars::utf8::validate;
 
 // 1 TextTooLong, then 2 NotUtf8.
-pub fn check_text(text: &[u8]) -> Checked
+#[tactic(auto, unfolding(crate::specs::Checks::check_text))]
+pub fn check_text(text: &[u8]) -> Result<(), Refusal>
     ensures { checked result ≡ check_text text.now }
 {
     let length = text.len();
     if LIMIT < length {
-        return Checked::Refused(Refusal::TextTooLong(length));
+        return Err(Refusal::TextTooLong(length));
     }
-    let verdict = validate(text);
-    match verdict {
-        Verdict::Valid => Checked::Fine,
-        Verdict::BadAt(at) => Checked::Refused(Refusal::NotUtf8(at)),
-    }
+    validate(text)?;
+    Ok(())
 }
 
 // 4 BadCount.
-pub fn check_count(slots: &[u32], count: usize) -> Checked
+#[tactic(auto, unfolding(crate::specs::Checks::check_count))]
+pub fn check_count(slots: &[u32], count: usize) -> Result<(), Refusal>
     ensures { checked result ≡ check_count slots.now count }
 {
     let whole = whole_slots(slots);
-    if LIMIT < count {
-        return Checked::Refused(Refusal::BadCount(whole));
+    if LIMIT < count || whole < count {
+        return Err(Refusal::BadCount(whole));
     }
-    if whole < count {
-        return Checked::Refused(Refusal::BadCount(whole));
-    }
-    Checked::Fine
+    Ok(())
 }
 
 // 4 BadCount, then 5 BadToken.
-pub fn check_list(slots: &[u32], count: usize) -> Checked
+pub fn check_list(slots: &[u32], count: usize) -> Result<(), Refusal>
     ensures { checked result ≡ (check_count slots.now count then check_form (tokens_in slots.now count)) }
 {
-    let of_count = check_count(slots, count);
-    if let Checked::Refused(why) = of_count {
-        return Checked::Refused(why);
+    check_count(slots, count)?;
+    match first_malformed(slots, count) {
+        Some(place) => Err(Refusal::BadToken(place)),
+        None => Ok(()),
     }
-    let bad = first_malformed(slots, count);
-    if bad.0 < count {
-        return Checked::Refused(Refusal::BadToken(bad));
-    }
-    Checked::Fine
 }

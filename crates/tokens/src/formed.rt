@@ -1,7 +1,7 @@
 // Which slots are well formed. Document 01, "Token slots".
 ghost use Rattle.std.specs.Prelude.{◌≡◌, ◌≤◌};
 ghost use Rattle.tokens.specs.Slots.{room, tokens_in};
-ghost use Rattle.tokens.specs.Formed.{carries_offsets, well_formed, malformed, first_place};
+ghost use Rattle.tokens.specs.Formed.{carries_offsets, well_formed, malformed, first_place, place_below};
 
 use crate::kind;
 use crate::place::Place;
@@ -32,17 +32,16 @@ pub fn is_well_formed(slot: Slot) -> bool
     }
 }
 
-// The place of the first slot that is not well formed; the count, where there is none.
-pub fn first_malformed(slots: &[u32], count: usize) -> Place
+// The place of the first slot that is not well formed, where there is one.
+pub fn first_malformed(slots: &[u32], count: usize) -> Option<Place>
     requires { count ≤ room slots.now }
-    ensures { result.0 ≡ first_place malformed (tokens_in slots.now count) }
+    ensures { result ≡ place_below count (first_place malformed (tokens_in slots.now count)) }
 {
-    let mut i = 0;
-    while i < count {
-        if !is_well_formed(slot_at(slots, Place(i))) {
-            return Place(i);
+    for i in 0..count {
+        let place = Place(i);
+        if !is_well_formed(slot_at(slots, place)) {
+            return Some(place);
         }
-        i += 1;
     }
-    Place(i)
+    None
 }

@@ -1,122 +1,94 @@
 // The fixed text of each kind, in capitals for words except `x 0x b 0b n`: fixed byte strings, copied out when tokens are written.
-// In the Rust, the arms of writer.rs. Groups of the kinds, each with its own `match`, and all tied to the table of specs/Texts.antt.
-// The marks are here, the other groups in texts/, in the order of the kinds.
-ghost use Rattle.std.specs.Prelude.{◌≡◌, ◌<◌};
-ghost use Rattle.tokens.specs.Fixed.{fixed_of};
-ghost use Rattle.tokens.specs.Kinds as kinds;
+// In the Rust, the arms of writer.rs. They are tied to the table of specs/Texts.antt.
+ghost use Rattle.std.specs.Prelude.{◌≡◌};
+ghost use Rattle.tokens.specs.Texts.{text_of};
 
 use crate::kind;
-use crate::texts::operators::{arithmetic_or_logical, comparison_or_later};
-use crate::texts::words::{indicator_or_mark, keyword};
-
-mod operators;
-mod words;
-
-// A text of up to nine bytes, with blanks after it.
-#[derive(Clone, Copy)]
-pub struct Fixed {
-    pub bytes: [u8; 9],
-    pub len: usize,
-}
-
-// The marks, and the values that are words: None to False.
-fn generic(kind: u32) -> Fixed
-    requires { kind < kinds.Multiply }
-    ensures { result ≡ fixed_of kind }
-{
-    match kind {
-        kind::SPACE => Fixed {
-            bytes: *b"         ",
-            len: 1,
-        },
-        kind::NEWLINE => Fixed {
-            bytes: *b"\n        ",
-            len: 1,
-        },
-        kind::DOT => Fixed {
-            bytes: *b".        ",
-            len: 1,
-        },
-        kind::COMMA => Fixed {
-            bytes: *b",        ",
-            len: 1,
-        },
-        kind::WILDCARD => Fixed {
-            bytes: *b"*        ",
-            len: 1,
-        },
-        kind::PARENTHESE_OPEN => Fixed {
-            bytes: *b"(        ",
-            len: 1,
-        },
-        kind::PARENTHESE_CLOSE => Fixed {
-            bytes: *b")        ",
-            len: 1,
-        },
-        kind::SQUARE_BRACKET_OPEN => Fixed {
-            bytes: *b"[        ",
-            len: 1,
-        },
-        kind::SQUARE_BRACKET_CLOSE => Fixed {
-            bytes: *b"]        ",
-            len: 1,
-        },
-        kind::COLON => Fixed {
-            bytes: *b":        ",
-            len: 1,
-        },
-        kind::SEMICOLON => Fixed {
-            bytes: *b";        ",
-            len: 1,
-        },
-        kind::PLACEHOLDER => Fixed {
-            bytes: *b"?        ",
-            len: 1,
-        },
-        kind::ELLIPSIS => Fixed {
-            bytes: *b"...      ",
-            len: 3,
-        },
-        kind::NULL => Fixed {
-            bytes: *b"NULL     ",
-            len: 4,
-        },
-        kind::TRUE => Fixed {
-            bytes: *b"TRUE     ",
-            len: 4,
-        },
-        kind::FALSE => Fixed {
-            bytes: *b"FALSE    ",
-            len: 5,
-        },
-        _ => Fixed {
-            bytes: *b"         ",
-            len: 0,
-        },
-    }
-}
 
 // The fixed text of a kind: empty for a kind that has none.
-pub fn fixed_text(kind: u32) -> Fixed
-    ensures { result ≡ fixed_of kind }
+#[tactic(auto, using(crate::proofs::Rows::text_none), unfolding(crate::specs::Texts::text_of, crate::specs::Texts::texts))]
+pub fn fixed_text(kind: u32) -> &'static [u8]
+    ensures { result.now ≡ text_of kind }
 {
-    if kind < kind::MULTIPLY {
-        return generic(kind);
-    }
-    if kind < kind::EQUAL {
-        return arithmetic_or_logical(kind);
-    }
-    if kind < kind::SELECT {
-        return comparison_or_later(kind);
-    }
-    if kind < kind::BINARY {
-        return keyword(kind);
-    }
-    if kind < kind::NUMERIC {
-        return indicator_or_mark(kind);
-    }
-    Fixed {
-        bytes: *b"         ",
-        len: 0,
+    match kind {
+        kind::SPACE => b" ",
+        kind::NEWLINE => b"\n",
+        kind::DOT => b".",
+        kind::COMMA => b",",
+        kind::WILDCARD => b"*",
+        kind::PARENTHESE_OPEN => b"(",
+        kind::PARENTHESE_CLOSE => b")",
+        kind::SQUARE_BRACKET_OPEN => b"[",
+        kind::SQUARE_BRACKET_CLOSE => b"]",
+        kind::COLON => b":",
+        kind::SEMICOLON => b";",
+        kind::PLACEHOLDER => b"?",
+        kind::ELLIPSIS => b"...",
+        kind::NULL => b"NULL",
+        kind::TRUE => b"TRUE",
+        kind::FALSE => b"FALSE",
+        kind::MULTIPLY => b"*",
+        kind::DIVIDE => b"/",
+        kind::MODULO => b"%",
+        kind::PLUS => b"+",
+        kind::MINUS => b"-",
+        kind::IN => b"IN",
+        kind::NOT => b"NOT",
+        kind::LIKE => b"LIKE",
+        kind::ILIKE => b"ILIKE",
+        kind::RLIKE => b"RLIKE",
+        kind::GLOB => b"GLOB",
+        kind::MATCH => b"MATCH",
+        kind::REGEXP => b"REGEXP",
+        kind::THEN => b"THEN",
+        kind::ELSE => b"ELSE",
+        kind::EQUAL => b"=",
+        kind::EQUAL2 => b"==",
+        kind::NULL_SAFE_EQUAL => b"<=>",
+        kind::GREATER_THAN_OR_EQUAL => b">=",
+        kind::LESS_THAN_OR_EQUAL => b"<=",
+        kind::EQUAL_OR_GREATER_THAN => b"=>",
+        kind::EQUAL_OR_LESS_THAN => b"<=",
+        kind::EQUAL_WITH_ARROWS => b"<>",
+        kind::NOT_EQUAL => b"!=",
+        kind::GREATER_THAN => b">",
+        kind::LESS_THAN => b"<",
+        kind::LEFT_SHIFT => b"<<",
+        kind::RIGHT_SHIFT => b">>",
+        kind::BITWISE_AND => b"&",
+        kind::BITWISE_OR => b"|",
+        kind::SPECIFIED_PATH => b"#>",
+        kind::SPECIFIED_PATH_AS_TEXT => b"#>>",
+        kind::SELECT => b"SELECT",
+        kind::FROM => b"FROM",
+        kind::WHERE => b"WHERE",
+        kind::AND => b"AND",
+        kind::OR => b"OR",
+        kind::UPDATE => b"UPDATE",
+        kind::SET => b"SET",
+        kind::INSERT => b"INSERT",
+        kind::INTO => b"INTO",
+        kind::VALUES => b"VALUES",
+        kind::INNER => b"INNER",
+        kind::JOIN => b"JOIN",
+        kind::ON => b"ON",
+        kind::LIMIT => b"LIMIT",
+        kind::OFFSET => b"OFFSET",
+        kind::BETWEEN => b"BETWEEN",
+        kind::ARRAY => b"ARRAY",
+        kind::BINARY => b"BINARY",
+        kind::DATE => b"DATE",
+        kind::TIME => b"TIME",
+        kind::TIMESTAMP => b"TIMESTAMP",
+        kind::X => b"x",
+        kind::ZERO_X => b"0x",
+        kind::B => b"b",
+        kind::ZERO_B => b"0b",
+        kind::N => b"n",
+        kind::CHARSET => b"_",
+        kind::BACKTICKED => b"`",
+        kind::DOUBLE_QUOTED => b"\"",
+        kind::SINGLE_QUOTED => b"'",
+        kind::NONE | kind::OTHER | kind::NUMERIC.. => b"",
     }
 }

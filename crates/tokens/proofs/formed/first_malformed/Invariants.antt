@@ -1,12 +1,8 @@
 -- `tokens::formed::first_malformed` meets its contract. The invariant: the slots passed are all well formed. Assumes nothing.
 use mathlib.Core.Path.{◌≡◌}
-use Prim.Native.Nat.{◌-◌, ◌≤◌}
 use Rattle.tokens.specs.Slots.{tokens_in}
 use Rattle.tokens.specs.Formed.{malformed, first_place}
 use Rattle.tokens.proofs.formed.first_malformed.Given as goal
 
 abbrev pub invariant-loop-i : goal.invariant-loop-i
-invariant-loop-i l = (l.i ≤ l.count) × (first_place malformed (tokens_in l.slots l.i) ≡ l.i)
-
-abbrev pub decreases-loop-i : goal.decreases-loop-i
-decreases-loop-i l = l.count - l.i
+invariant-loop-i l = first_place malformed (tokens_in l.slots l.i) ≡ l.i
