@@ -11,7 +11,7 @@ ghost use Rattle.writer.specs.Promise.{Writes};
 
 use crate::survey::{refusal_at, survey};
 use crate::token::{put_token, token_len};
-use tokens::check::{Checked, check_count, check_text};
+use tokens::check::{check_count, check_text};
 use tokens::place::Place;
 use tokens::refusal::Refusal;
 use tokens::slot::slot_at;
@@ -50,12 +50,8 @@ pub fn fill(text: &[u8], slots: &[u32], count: usize, out: &mut [u8])
 pub fn write(text: &[u8], slots: &[u32], count: usize, out: &mut [u8]) -> Result<usize, Refusal>
     ensures { Writes text.now slots.now count out.old result out.new }
 {
-    if let Checked::Refused(why) = check_text(text) {
-        return Err(why);
-    }
-    if let Checked::Refused(why) = check_count(slots, count) {
-        return Err(why);
-    }
+    check_text(text)?;
+    check_count(slots, count)?;
     let total = survey(text, slots, count).map_err(|at| refusal_at(text, slots, count, at))?;
     if out.len() < total {
         return Err(Refusal::NoRoomOut(total));

@@ -7,6 +7,7 @@ ghost use Rattle.tokens.specs.Texts.{text_of};
 use tokens::kind;
 
 // Space to Placeholder, by themselves, so that the compiler's table has no gaps; none for None.
+#[tactic(auto, unfolding(tokens::specs::Texts::text_of, tokens::specs::Texts::texts))]
 pub fn mark(kind: u32) -> Option<u8>
     requires { kind < kinds.Ellipsis }
     ensures { MatchOption result (text_of kind ≡ []) (λ byte. text_of kind ≡ byte ∷ []) }
@@ -30,6 +31,7 @@ pub fn mark(kind: u32) -> Option<u8>
 }
 
 // The quote before and after a slice.
+#[tactic(auto, unfolding(tokens::specs::Texts::text_of, tokens::specs::Texts::texts))]
 pub fn quote(kind: u32) -> u8
     requires { (kinds.Backticked ≤ kind) × (kind ≤ kinds.SingleQuoted) }
     ensures { text_of kind ≡ result ∷ [] }

@@ -51,10 +51,8 @@ pub fn refusal_at(text: &[u8], slots: &[u32], count: usize, at: Place) -> Refusa
     requires { (count ≤ room slots.now) × (at.0 < count) × (at.0 ≡ first_place (faulty text.now) (tokens_in slots.now count)) }
     ensures { refusal result ≡ (check_form (tokens_in slots.now count) then check_cuts text.now (tokens_in slots.now count)) }
 {
-    let cut = at.0;
-    let bad = first_malformed(slots, count).0;
-    if bad < count {
-        return Refusal::BadToken(Place(bad));
+    match first_malformed(slots, count) {
+        Some(bad) => Refusal::BadToken(bad),
+        None => Refusal::CutChar(at),
     }
-    Refusal::CutChar(Place(cut))
 }
