@@ -19,7 +19,7 @@ use Rattle.tokens.specs.Slots.{tokens_in}
 use Rattle.tokens.specs.Formed.{malformed, first_place}
 use Rattle.writer.specs.Written.{written, cuts, onto}
 use Rattle.writer.specs.Promise.{check_cuts, check_out, list_answer, write_answer, Writes}
-use Rattle.std.specs.Prelude.{Result, Ok, Err}
+use Rattle.std.specs.Prelude.{Ok, Err}
 
 module _ (text : List ℕ) (ts : List Slot) where
   pub cuts_found : first_place (cuts text) ts < length ts → check_cuts text ts ≡ cut_char (first_place (cuts text) ts)

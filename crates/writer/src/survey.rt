@@ -16,6 +16,7 @@ use tokens::refusal::Refusal;
 use tokens::slot::{Slot, slot_at};
 
 // Whether a token is not well formed or cuts a character. The kinds before Other first, which are the most frequent.
+#[tactic(auto, unfolding(crate::specs::Survey::faulty, crate::specs::Written::cuts, tokens::specs::Formed::well_formed, tokens::specs::Formed::carries_offsets))]
 fn is_faulty(text: &[u8], slot: Slot) -> bool
     ensures { result ≡ faulty text.now slot }
 {

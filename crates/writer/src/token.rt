@@ -43,6 +43,7 @@ fn beside_of(kind: u32) -> usize
 }
 
 // How many bytes a token's text has. The kinds before Other first, which are the most frequent.
+#[tactic(auto, using(crate::proofs::Surveying::len_carries, crate::proofs::Surveying::len_fixed, crate::proofs::ByKind::len_unknown, crate::proofs::ByKind::content_small, crate::proofs::Surveying::beside_small, tokens::proofs::Forms::carries_low))]
 pub fn token_len(text: &[u8], slot: Slot) -> usize
     requires { length text.now ≤ limit }
     ensures { result ≡ length (token_text text.now slot) }
@@ -73,6 +74,7 @@ fn put_quoted(out: &mut [u8], at: usize, text: &[u8], slot: Slot) -> usize
 }
 
 // A token's text. The marks first, which are the most frequent.
+#[tactic(auto, using(crate::proofs::ByKind::text_charset, crate::proofs::ByKind::text_other, crate::proofs::ByKind::text_slice, crate::proofs::ByKind::text_unknown, crate::proofs::ByKind::text_quoted, crate::proofs::ByKind::text_fixed, crate::proofs::ByKind::formed_scalar, crate::proofs::Puts::put_as))]
 pub fn put_token(out: &mut [u8], at: usize, text: &[u8], slot: Slot) -> usize
     requires { (well_formed slot ≡ true) × (at + length (token_text text.now slot) ≤ length out.old) }
     ensures { Put out.old at (token_text text.now slot) result out.new }

@@ -1,5 +1,5 @@
 -- `writer::fill` meets its contract. The invariant: the text so far lies over the front. Assumes nothing.
-use mathlib.Core.Path.{◌≡◌, refl, sym, ap, ◌∙◌}
+use mathlib.Core.Path.{refl, sym, ap, ◌∙◌}
 use native.Mathlib.Omega.{arith}
 use borrow.Author.Tests.{not-false}
 use lib.ListN.{length}
@@ -10,7 +10,7 @@ use Rattle.tokens.specs.Formed.{malformed, well_formed}
 use Rattle.tokens.proofs.Places.{place_le, place_none}
 use Rattle.tokens.proofs.Storing.{length-tokens, get_or-tokens}
 use Rattle.writer.specs.Written.{token_text, written}
-use Rattle.writer.proofs.Lists.{written-room, fill_more}
+use Rattle.writer.proofs.Lists.{written_room, fill_more}
 use Rattle.writer.proofs.fill.Goals as goal
 
 pub loop-i-init : goal.loop-i-init
@@ -25,7 +25,7 @@ put_token-at-requires c =
     let here = c.slot_at.ensures in
     let all = place_none malformed ts (bare kind.None) (omega (arith, place_le malformed ts, length-tokens x.slots.now 0 x.count)) i (omega (arith, length-tokens x.slots.now 0 x.count)) in (
       ap well_formed (here ∙ sym (get_or-tokens x.slots.now x.count i (bare kind.None) (omega arith))) ∙ not-false _ all,
-      omega (arith, ap (λ (t : Slot). length (token_text x.text.now t)) here, written-room x.text.now x.slots.now i x.count (omega arith)),
+      omega (arith, ap (λ (t : Slot). length (token_text x.text.now t)) here, written_room x.text.now x.slots.now i x.count (omega arith)),
     )
 
 pub loop-i-preserved : goal.loop-i-preserved

@@ -16,7 +16,7 @@ use Rattle.writer.specs.Written.{written}
 use Rattle.writer.specs.Promise.{check_out, write_answer}
 use Rattle.writer.specs.Survey.{faulty, Surveyed}
 use Rattle.tokens.specs.declared.slot.Slot.{Slot}
-use Rattle.writer.proofs.Answers.{out_short, out_fits, refused_text, refused_count, refused_list, after_list, refuses, writes}
+use Rattle.writer.proofs.Answers.{out_short, out_fits, after_list, refuses, writes}
 use Rattle.writer.proofs.Surveying.{faulty_none, faulty-cuts}
 use Rattle.writer.proofs.write.Goals as goal
 

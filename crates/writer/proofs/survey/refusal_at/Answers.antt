@@ -1,5 +1,5 @@
 -- `writer::survey::refusal_at` meets its contract: a malformed token anywhere, or else the place is that of the first cut. Assumes nothing.
-use mathlib.Core.Path.{◌≡◌, sym, ap, ◌∙◌}
+use mathlib.Core.Path.{sym, ap, ◌∙◌}
 use Prim.Native.Nat.{◌≤◌}
 use native.Mathlib.Omega.{arith}
 use lib.ListN.{length}

@@ -1,7 +1,6 @@
 -- `writer::token::put_quoted` meets its contract: three copies, one behind the other. Assumes nothing.
-use mathlib.Core.Path.{sym, ap}
+use mathlib.Core.Path.{sym}
 use native.Mathlib.Omega.{arith}
-use lib.ListN.{length}
 use Rattle.tokens.specs.Texts.{text_of}
 use Rattle.writer.specs.Written.{slice_of}
 use Rattle.writer.proofs.Puts.{three_length, put_as, put_then}
