@@ -19,7 +19,7 @@ use Rattle.tokens.specs.Slots.{tokens_in}
 use Rattle.tokens.specs.Formed.{malformed, first_place}
 use Rattle.writer.specs.Written.{written, cuts, onto}
 use Rattle.writer.specs.Promise.{check_cuts, check_out, list_answer, write_answer, Writes}
-use Rattle.writer.specs.declared.Wrote.TheVariants.{Done, Refused}
+use Rattle.std.specs.Prelude.{Ok, Err}
 
 module _ (text : List ℕ) (ts : List Slot) where
   pub cuts_found : first_place (cuts text) ts < length ts → check_cuts text ts ≡ cut_char (first_place (cuts text) ts)
@@ -72,11 +72,11 @@ module _ (text ws : List ℕ) (n room : ℕ) where
           ∙ after_count
 
 module _ {text ws : List ℕ} {n : ℕ} {out : List ℕ} where
-  pub refuses : (r : Refusal) → refusal r ≡ write_answer text ws n (length out) → Writes text ws n out (Refused r) out
+  pub refuses : (r : Refusal) → refusal r ≡ write_answer text ws n (length out) → Writes text ws n out (Err r) out
   refuses r g = record {
     answer = g;
     buffer = sym (refusal_after r (onto (written text (tokens_in ws n)) out) out) ∙ ap (λ (a : Answer). afterwards a (onto (written text (tokens_in ws n)) out) out) g;
   }
 
-  pub writes : {m : ℕ} {out' : List ℕ} → done (m ∷ []) ≡ write_answer text ws n (length out) → out' ≡ onto (written text (tokens_in ws n)) out → Writes text ws n out (Done m) out'
+  pub writes : {m : ℕ} {out' : List ℕ} → done (m ∷ []) ≡ write_answer text ws n (length out) → out' ≡ onto (written text (tokens_in ws n)) out → Writes text ws n out (Ok m) out'
   writes g h = record { answer = g; buffer = h ∙ ap (λ (a : Answer). afterwards a (onto (written text (tokens_in ws n)) out) out) g }

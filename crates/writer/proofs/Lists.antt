@@ -1,7 +1,7 @@
 -- The text of a token list.
 -- written-append   a list cut in two and written as two: the texts joined are the whole list's text
 -- written_more     one more token
--- written-room     what is written so far and the next token are within the whole
+-- written_room     what is written so far and the next token are within the whole
 -- total_more       one more token measured: the total, and that it stays small
 -- fill_more        one more token written behind what lies over the front
 -- Assumes nothing.
@@ -32,10 +32,10 @@ pub written_more : (text ws : List ℕ) (i : ℕ) → written text (tokens_in ws
 unfolding written
 written_more text ws i = rw (tokens_more ws i, written-append text (tokens_in ws i) (slot_at ws i ∷ []), append-nil)
 
-pub written-room : (text ws : List ℕ) (i n : ℕ) → i < n
+pub written_room : (text ws : List ℕ) (i n : ℕ) → i < n
     → length (written text (tokens_in ws i)) + length (token_text text (slot_at ws i)) ≤ length (written text (tokens_in ws n))
 unfolding written
-written-room text ws i n l =
+written_room text ws i n l =
     let rest : List Slot = tokens_from ws (suc i) (n - suc i) in
     rw (tokens-at ws i n l, written-append text (tokens_in ws i) (slot_at ws i ∷ rest))
     (omega (arith, length-append (written text (tokens_in ws i)) (token_text text (slot_at ws i) ++ written text rest), length-append (token_text text (slot_at ws i)) (written text rest)))

@@ -5,15 +5,13 @@
 -- put_then    one copy behind another
 -- put_onto    a copy behind a text that lies over the front
 -- three_length   the length of three parts
--- put_long    a copy keeps the buffer's length
 -- Assumes nothing.
 use mathlib.Core.Path.{◌≡◌, refl, ap, sym, ◌∙◌}
 use mathlib.Core.List.{List, [], ◌∷◌, ◌++◌, append_assoc, append-nil}
 use Prim.Native.Nat.{ℕ, ◌+◌, ◌≤◌, ◌<◌}
 use native.Mathlib.Nat.{add_assoc, add-zero}
 use native.Mathlib.Numerals.{add-one}
-use native.Mathlib.Omega.{arith}
-use lib.ListN.{length, take, drop, set, length-append, take-append-drop, length-drop}
+use lib.ListN.{length, take, drop, set, length-append, take-append-drop}
 use lib.Seq.{set_split, take-append_seam, drop-append-add, drop-drop, length-take-le, take_at}
 use Rattle.writer.specs.Written.{onto}
 use Rattle.writer.specs.Promise.{Put}
@@ -65,7 +63,3 @@ module _ (w out : List ℕ) {s : List ℕ} {r : ℕ} {out' : List ℕ} where
 
 pub three_length : (a b c : List ℕ) → length (a ++ b ++ c) ≡ length a + length b + length c
 three_length a b c = simp length-append
-
-pub put_long : {out : List ℕ} {at : ℕ} {s : List ℕ} {r : ℕ} {out' : List ℕ} → at + length s ≤ length out → Put out at s r out' → length out' ≡ length out
-put_long {out} {at} {s} h p =
-    ap length p.left ∙ simp (length-append, length-drop) (omega (arith, length-take-le at out (omega arith)))

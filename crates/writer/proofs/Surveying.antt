@@ -1,39 +1,37 @@
 -- One pass over a token list: which tokens may not be written, how long the others are, and what both make of the list.
--- get_or-digits       the table at a kind
+-- beside_table      the table at a kind
 -- beside_past, beside_small   a kind past SingleQuoted has nothing beside its slice; no kind has much
 -- len_carries, len_fixed   the length of a token's text by what stands beside its slice
--- faulty_first, _second, _carries, -bare   `faulty` by the kind
 -- or-le, or_same    the first place that passes one of two tests
 -- faulty_none, faulty-cuts   no token is faulty; none is malformed
 -- Assumes nothing.
 use mathlib.Core.Path.{◌≡◌, refl, ap, sym, ◌∙◌}
 use mathlib.Core.Logic.{◌⊎◌, inl, inr}
-use mathlib.Core.Bool.{Bool, true, false, cond, not, ◌||◌, or-false, false≢true}
+use mathlib.Core.Bool.{Bool, true, false, cond, ◌||◌, false≢true}
 use mathlib.Core.List.{List, [], ◌∷◌, ◌++◌}
 use Prim.Native.Nat.{ℕ, suc, ◌+◌, ◌≤◌, ◌<◌}
-use Prim.Native.Char.{code}
 use native.Mathlib.Nat.{add-zero}
 use native.Mathlib.Omega.{arith}
-use lib.Dec.{eqb}
-use lib.ListN.{length, length-append, get_or}
-use borrow.Author.Tests.{eq-eqb, ne_eqb}
+use lib.ListN.{length, length-append, get_or, get_or-eq_default}
+use borrow.Author.Tests.{ne_eqb}
 use Rattle.tokens.specs.declared.slot.Slot.{Slot}
 use Rattle.tokens.specs.Kinds as kind
-use Rattle.tokens.specs.Formed.{carries_offsets, well_formed, malformed, first_place}
-use Rattle.tokens.specs.Texts.{text_of}
-use Rattle.tokens.proofs.Forms.{carries_in, carries_low, formed_carries, formed_plain}
+use Rattle.tokens.specs.Formed.{carries_offsets, malformed, first_place}
+use Rattle.tokens.specs.Tabled.{tabled}
+use Rattle.tokens.specs.Texts.{texts, text_of}
+use Rattle.tokens.proofs.Forms.{carries_in}
 use Rattle.tokens.proofs.Places.{place_le}
 use Rattle.tokens.proofs.Rows.{text_small, text_none}
 use Rattle.tokens.proofs.Tabling.{get_or-tabled}
+use Rattle.writer.specs.declared.token.TheConstants.{BESIDE}
 use Rattle.writer.specs.Written.{slice_of, token_text, cuts}
-use Rattle.writer.specs.Survey.{faulty, beside, digits}
+use Rattle.writer.specs.Survey.{faulty, beside}
 use Rattle.writer.proofs.ByKind.{quoted_low, quoted_high, below_or}
-use Rattle.writer.proofs.Cutting.{cuts_kind}
 
--- ---- the table
-pub get_or-digits : (k : ℕ) → k ≤ kind.Unknown → get_or digits k 0 ≡ code "0" + beside k
-unfolding digits
-get_or-digits k h = get_or-tabled (λ m. code "0" + beside m) kind.None (suc kind.Unknown) k (omega arith) ∙ ap (λ (m : ℕ). code "0" + beside m) (omega arith)
+-- ---- what stands beside a slice
+beside_laid : tabled beside kind.None (suc kind.Unknown) ≡ BESIDE
+unfolding beside text_of texts kind.is_quoted
+beside_laid = refl
 
 pub beside_past : (k : ℕ) → kind.SingleQuoted < k → beside k ≡ 0
 unfolding beside
@@ -46,6 +44,16 @@ beside_small k = go (kind.is_quoted k)
     go : (b : Bool) → length (text_of k) + cond b (length (text_of k)) 0 ≤ 18
     go true = omega (arith, text_small k)
     go false = omega (arith, text_small k)
+
+-- the table says it of each kind, and nothing past them
+pub beside_table : (k : ℕ) → get_or BESIDE k 0 ≡ beside k
+beside_table k = go (below_or k (suc kind.Unknown))
+  where
+    go : (k < suc kind.Unknown) ⊎ (suc kind.Unknown ≤ k) → get_or BESIDE k 0 ≡ beside k
+    go (inl h) =
+        ap (λ (l : List ℕ). get_or l k 0) (sym beside_laid)
+        ∙ get_or-tabled beside kind.None (suc kind.Unknown) k h ∙ ap beside (omega arith)
+    go (inr h) = get_or-eq_default BESIDE 0 {n = k} h ∙ sym (beside_past k (omega arith))
 
 -- ---- a token
 quoted_carries : (k : ℕ) → carries_offsets k ≡ false → kind.is_quoted k ≡ false
@@ -70,25 +78,6 @@ module _ (text : List ℕ) (t : Slot) where
   pub len_fixed : carries_offsets t.kind ≡ false → (t.kind ≡ kind.Unknown → ⊥) → beside t.kind ≡ length (token_text text t)
   unfolding token_text beside
   len_fixed e n = rw (quoted_carries t.kind e, e, ne_eqb t.kind kind.Unknown n) (add-zero (length (text_of t.kind)))
-
-  module _ (h : t.kind < kind.Other) where
-    plain : faulty text t ≡ not (well_formed t)
-    unfolding faulty
-    plain = rw (cuts_kind text t (carries_low t.kind (omega arith) (omega arith)), or-false)
-
-    pub faulty_first : (t.first ≡ 0 → ⊥) → faulty text t ≡ true
-    faulty_first n = plain ∙ rw (formed_plain t (omega arith) (omega arith), ne_eqb t.first 0 n)
-
-    pub faulty_second : t.first ≡ 0 → faulty text t ≡ not (eqb t.second 0)
-    faulty_second z = plain ∙ rw (formed_plain t (omega arith) (omega arith), eq-eqb t.first 0 z)
-
-  pub faulty_carries : carries_offsets t.kind ≡ true → faulty text t ≡ cuts text t
-  unfolding faulty
-  faulty_carries e = rw (formed_carries t e)
-
-  pub faulty-bare : carries_offsets t.kind ≡ false → faulty text t ≡ not (well_formed t)
-  unfolding faulty
-  faulty-bare e = rw (cuts_kind text t e, or-false)
 
 -- ---- the list
 module _ (p q : Slot → Bool) where

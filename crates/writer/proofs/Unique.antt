@@ -10,35 +10,35 @@ use mathlib.Core.Path.{◌≡◌, refl, ap, sym, ◌∙◌}
 use mathlib.Core.List.{List}
 use Prim.Native.Nat.{ℕ}
 use lib.ListN.{get_or}
+use Rattle.tokens.specs.declared.refusal.Refusal.{Refusal}
 use Rattle.tokens.specs.declared.refusal.Refusal.TheVariants.{TextTooLong, NotUtf8, NoRoomTokens, BadCount, BadToken, CutChar, NoRoomOut}
 use Rattle.tokens.specs.Answers.{Answer, done, refused}
 use Rattle.tokens.proofs.Back.{back}
 use Rattle.writer.specs.Promise.{paper, Writes}
-use Rattle.writer.specs.declared.Wrote.{Wrote}
-use Rattle.writer.specs.declared.Wrote.TheVariants.{Done, Refused}
+use Rattle.std.specs.Prelude.{Result, Ok, Err}
 use Rattle.writer.proofs.write.Kinds as kinds
 use Rattle.writer.proofs.write.Reads as reads
 
 -- an answer read back from the paper's numbers
-wrote : Answer → Wrote
-wrote (done ns) = Done (get_or ns 0 0)
-wrote (refused k d) = Refused (back (refused k d))
+wrote : Answer → Result ℕ Refusal
+wrote (done ns) = Ok (get_or ns 0 0)
+wrote (refused k d) = Err (back (refused k d))
 
-wrote-paper : (r : Wrote) → wrote (paper r) ≡ r
+wrote-paper : (r : Result ℕ Refusal) → wrote (paper r) ≡ r
 unfolding wrote back
-wrote-paper (Done n) = refl
-wrote-paper (Refused (TextTooLong n)) = refl
-wrote-paper (Refused (NotUtf8 at)) = refl
-wrote-paper (Refused (NoRoomTokens n)) = refl
-wrote-paper (Refused (BadCount n)) = refl
-wrote-paper (Refused (BadToken p)) = refl
-wrote-paper (Refused (CutChar p)) = refl
-wrote-paper (Refused (NoRoomOut n)) = refl
+wrote-paper (Ok n) = refl
+wrote-paper (Err (TextTooLong n)) = refl
+wrote-paper (Err (NotUtf8 at)) = refl
+wrote-paper (Err (NoRoomTokens n)) = refl
+wrote-paper (Err (BadCount n)) = refl
+wrote-paper (Err (BadToken p)) = refl
+wrote-paper (Err (CutChar p)) = refl
+wrote-paper (Err (NoRoomOut n)) = refl
 
-pub paper_one : {r s : Wrote} → paper r ≡ paper s → r ≡ s
+pub paper_one : {r s : Result ℕ Refusal} → paper r ≡ paper s → r ≡ s
 paper_one {r} {s} e = sym (wrote-paper r) ∙ ap wrote e ∙ wrote-paper s
 
-pub writes_one : {text ws : List ℕ} {n : ℕ} {out : List ℕ} {r₁ r₂ : Wrote} {b₁ b₂ : List ℕ}
+pub writes_one : {text ws : List ℕ} {n : ℕ} {out : List ℕ} {r₁ r₂ : Result ℕ Refusal} {b₁ b₂ : List ℕ}
     → Writes text ws n out r₁ b₁ → Writes text ws n out r₂ b₂ → (r₁ ≡ r₂) × (b₁ ≡ b₂)
 writes_one p q = (paper_one (p.answer ∙ sym q.answer), p.buffer ∙ sym q.buffer)
 

@@ -1,18 +1,17 @@
 -- What writing promises: the answer in the paper's numbers, and the buffer. Assumes nothing.
-use Rattle.std.specs.Prelude.{◌≡◌, cond, List, [], ◌∷◌, ◌++◌, ℕ, ◌+◌, ltb, length, take, drop}
+use Rattle.std.specs.Prelude.{◌≡◌, Result, Ok, Err, cond, List, [], ◌∷◌, ◌++◌, ℕ, ◌+◌, ltb, length, take, drop}
+use Rattle.tokens.specs.declared.refusal.Refusal.{Refusal}
 use Rattle.tokens.specs.declared.slot.Slot.{Slot}
 use Rattle.tokens.specs.Answers.{Answer, done, refusal, cut_char, no_room_out}
 use Rattle.tokens.specs.Checks.{◌then◌, fine, check_text, check_count, check_form, afterwards}
 use Rattle.tokens.specs.Slots.{tokens_in}
 use Rattle.tokens.specs.Formed.{first_place}
 use Rattle.writer.specs.Written.{written, cuts, onto}
-use Rattle.writer.specs.declared.Wrote.{Wrote}
-use Rattle.writer.specs.declared.Wrote.TheVariants.{Done, Refused}
 
 -- the code's answer in the paper's numbers
-abbrev pub paper : Wrote → Answer
-paper (Done n) = done (n ∷ [])
-paper (Refused r) = refusal r
+abbrev pub paper : Result ℕ Refusal → Answer
+paper (Ok n) = done (n ∷ [])
+paper (Err r) = refusal r
 
 -- 6, of a token list over its text
 unfoldable pub check_cuts : List ℕ → List Slot → Answer
@@ -31,7 +30,7 @@ abbrev pub write_answer : List ℕ → List ℕ → ℕ → ℕ → Answer
 write_answer text ws n room = check_text text then check_count ws n then list_answer text (tokens_in ws n) room
 
 -- the answer, and the output afterwards: the text over its front, or as it was
-pub record Writes (text ws : List ℕ) (n : ℕ) (out : List ℕ) (r : Wrote) (out' : List ℕ) : Type 0 where
+pub record Writes (text ws : List ℕ) (n : ℕ) (out : List ℕ) (r : Result ℕ Refusal) (out' : List ℕ) : Type 0 where
   pub answer : paper r ≡ write_answer text ws n (length out)
   pub buffer : out' ≡ afterwards (write_answer text ws n (length out)) (onto (written text (tokens_in ws n)) out) out
 

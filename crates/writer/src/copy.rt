@@ -7,21 +7,20 @@ ghost use Rattle.writer.specs.Promise.{Put};
 
 use crate::marks::mark;
 use tokens::kind;
+use tokens::texts::fixed_text;
 
 // Copies src into out behind the first `at` bytes, and answers how many there are then.
 pub fn put(out: &mut [u8], at: usize, src: &[u8]) -> usize
     requires { at + length src.now ≤ length out.old }
     ensures { Put out.old at src.now result out.new }
 {
-    let mut j = 0;
-    while j < src.len() {
-        out[at + j] = src[j];
-        j += 1;
-    }
-    at + j
+    let end = at + src.len();
+    out[at..end].copy_from_slice(src);
+    end
 }
 
 // One byte.
+#[tactic(auto, using(crate::proofs::Puts::put_one))]
 pub fn put_byte(out: &mut [u8], at: usize, byte: u8) -> usize
     requires { at < length out.old }
     ensures { Put out.old at (byte ∷ []) result out.new }
@@ -35,14 +34,14 @@ pub fn put_mark(out: &mut [u8], at: usize, kind: u32) -> usize
     requires { (kind < kinds.Ellipsis) × (at + length (text_of kind) ≤ length out.old) }
     ensures { Put out.old at (text_of kind) result out.new }
 {
-    let byte = mark(kind);
-    if byte == 0 {
-        return at;
+    match mark(kind) {
+        Some(byte) => put_byte(out, at, byte),
+        None => at,
     }
-    put_byte(out, at, byte)
 }
 
 // The fixed text of a kind. Equal is the one frequent text of one byte that is no mark.
+#[tactic(auto, unfolding(tokens::specs::Texts::text_of, tokens::specs::Texts::texts))]
 pub fn put_fixed(out: &mut [u8], at: usize, kind: u32) -> usize
     requires { at + length (text_of kind) ≤ length out.old }
     ensures { Put out.old at (text_of kind) result out.new }
@@ -50,13 +49,11 @@ pub fn put_fixed(out: &mut [u8], at: usize, kind: u32) -> usize
     if kind == kind::EQUAL {
         return put_byte(out, at, b'=');
     }
-    let fixed = tokens::texts::fixed_text(kind);
-    let bytes = fixed.bytes;
-    let len = fixed.len;
-    put(out, at, &bytes[..len])
+    put(out, at, fixed_text(kind))
 }
 
 // A scalar value in UTF-8, as RFC 3629 writes it.
+#[tactic(auto, using(chars::proofs::Whole::encode_1, chars::proofs::Whole::encode_2, chars::proofs::Whole::encode_3, chars::proofs::Whole::encode_4))]
 pub fn put_char(out: &mut [u8], at: usize, c: u32) -> usize
     requires { (c < 0x110000) × (at + length (encode c) ≤ length out.old) }
     ensures { Put out.old at (encode c) result out.new }

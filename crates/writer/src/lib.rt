@@ -8,11 +8,10 @@ ghost use Rattle.tokens.specs.Slots.{room, tokens_in};
 ghost use Rattle.tokens.specs.Formed.{first_place, malformed};
 ghost use Rattle.writer.specs.Written.{written, onto};
 ghost use Rattle.writer.specs.Promise.{Writes};
-ghost use Rattle.writer.specs.Survey.{digits};
 
 use crate::survey::{refusal_at, survey};
-use crate::token::{KINDS, beside_table, put_token, token_len};
-use tokens::check::{Checked, check_count, check_text};
+use crate::token::{put_token, token_len};
+use tokens::check::{check_count, check_text};
 use tokens::place::Place;
 use tokens::refusal::Refusal;
 use tokens::slot::slot_at;
@@ -23,34 +22,16 @@ pub mod marks;
 pub mod survey;
 pub mod token;
 
-// The length of the text, or why it was not written.
-#[derive(Clone, Copy)]
-pub enum Wrote {
-    Done(usize),
-    Refused(Refusal),
-}
-
-// The length of the text, by the lent table.
-fn measure_by(table: &[u8; KINDS], text: &[u8], slots: &[u32], count: usize) -> usize
-    requires { (table.now ≡ digits) × (length text.now ≤ limit) × (count ≤ limit) × (count ≤ room slots.now) }
-    ensures { result ≡ length (written text.now (tokens_in slots.now count)) }
-{
-    let mut total = 0;
-    let mut i = 0;
-    while i < count {
-        total += token_len(table, text, slot_at(slots, Place(i)));
-        i += 1;
-    }
-    total
-}
-
 // The length of the whole text.
 pub fn measure(text: &[u8], slots: &[u32], count: usize) -> usize
     requires { (length text.now ≤ limit) × (count ≤ limit) × (count ≤ room slots.now) }
     ensures { result ≡ length (written text.now (tokens_in slots.now count)) }
 {
-    let table = beside_table();
-    measure_by(&table, text, slots, count)
+    let mut total = 0;
+    for i in 0..count {
+        total += token_len(text, slot_at(slots, Place(i)));
+    }
+    total
 }
 
 // The whole text, laid over the front of the buffer.
@@ -60,33 +41,21 @@ pub fn fill(text: &[u8], slots: &[u32], count: usize, out: &mut [u8])
     ensures { out.new ≡ onto (written text.now (tokens_in slots.now count)) out.old }
 {
     let mut at = 0;
-    let mut i = 0;
-    while i < count {
+    for i in 0..count {
         at = put_token(out, at, text, slot_at(slots, Place(i)));
-        i += 1;
     }
 }
 
 // Writes a token list over its statement: refusals 1, 2, 4, 5, 6, 7 in that order, each over the whole list before the next.
-pub fn write(text: &[u8], slots: &[u32], count: usize, out: &mut [u8]) -> Wrote
+pub fn write(text: &[u8], slots: &[u32], count: usize, out: &mut [u8]) -> Result<usize, Refusal>
     ensures { Writes text.now slots.now count out.old result out.new }
 {
-    let of_text = check_text(text);
-    if let Checked::Refused(why) = of_text {
-        return Wrote::Refused(why);
-    }
-    let of_count = check_count(slots, count);
-    if let Checked::Refused(why) = of_count {
-        return Wrote::Refused(why);
-    }
-    let table = beside_table();
-    let seen = survey(&table, text, slots, count);
-    if seen.place.0 < count {
-        return Wrote::Refused(refusal_at(text, slots, count, seen.place));
-    }
-    if out.len() < seen.total {
-        return Wrote::Refused(Refusal::NoRoomOut(seen.total));
+    check_text(text)?;
+    check_count(slots, count)?;
+    let total = survey(text, slots, count).map_err(|at| refusal_at(text, slots, count, at))?;
+    if out.len() < total {
+        return Err(Refusal::NoRoomOut(total));
     }
     fill(text, slots, count, out);
-    Wrote::Done(seen.total)
+    Ok(total)
 }

@@ -1,17 +1,18 @@
 // The texts of one byte, which token lists are full of. A dense `match` that answers a number is a table for the compiler, where
 // `fixed_text` answers through memory.
-ghost use Rattle.std.specs.Prelude.{[], ◌∷◌, ◌≡◌, ◌<◌, ◌≤◌};
+ghost use Rattle.std.specs.Prelude.{[], ◌∷◌, ◌≡◌, ◌<◌, ◌≤◌, MatchOption};
 ghost use Rattle.tokens.specs.Kinds as kinds;
 ghost use Rattle.tokens.specs.Texts.{text_of};
 
 use tokens::kind;
 
-// Space to Placeholder, by themselves, so that the compiler's table has no gaps; 0 for None.
-pub fn mark(kind: u32) -> u8
+// Space to Placeholder, by themselves, so that the compiler's table has no gaps; none for None.
+#[tactic(auto, unfolding(tokens::specs::Texts::text_of, tokens::specs::Texts::texts))]
+pub fn mark(kind: u32) -> Option<u8>
     requires { kind < kinds.Ellipsis }
-    ensures { (0 < result → text_of kind ≡ result ∷ []) × (result ≡ 0 → text_of kind ≡ []) }
+    ensures { MatchOption result (text_of kind ≡ []) (λ byte. text_of kind ≡ byte ∷ []) }
 {
-    match kind {
+    let byte = match kind {
         kind::SPACE => b' ',
         kind::NEWLINE => b'\n',
         kind::DOT => b'.',
@@ -24,11 +25,13 @@ pub fn mark(kind: u32) -> u8
         kind::COLON => b':',
         kind::SEMICOLON => b';',
         kind::PLACEHOLDER => b'?',
-        _ => 0,
-    }
+        _ => return None,
+    };
+    Some(byte)
 }
 
 // The quote before and after a slice.
+#[tactic(auto, unfolding(tokens::specs::Texts::text_of, tokens::specs::Texts::texts))]
 pub fn quote(kind: u32) -> u8
     requires { (kinds.Backticked ≤ kind) × (kind ≤ kinds.SingleQuoted) }
     ensures { text_of kind ≡ result ∷ [] }

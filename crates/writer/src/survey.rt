@@ -5,24 +5,18 @@ ghost use Rattle.tokens.specs.Checks.{◌then◌, check_form};
 ghost use Rattle.tokens.specs.Slots.{room, tokens_in};
 ghost use Rattle.tokens.specs.Formed.{first_place};
 ghost use Rattle.writer.specs.Promise.{check_cuts};
-ghost use Rattle.writer.specs.Survey.{digits, faulty, Surveyed};
+ghost use Rattle.writer.specs.Survey.{faulty, Surveyed};
 
 use crate::cut::is_cut;
-use crate::token::{KINDS, token_len};
+use crate::token::token_len;
 use tokens::formed::{carries_offsets, first_malformed, is_well_formed};
 use tokens::kind;
 use tokens::place::Place;
 use tokens::refusal::Refusal;
 use tokens::slot::{Slot, slot_at};
 
-// The first token that may not be written, or the count; and the length of the text before it.
-#[derive(Clone, Copy)]
-pub struct Seen {
-    pub place: Place,
-    pub total: usize,
-}
-
 // Whether a token is not well formed or cuts a character. The kinds before Other first, which are the most frequent.
+#[tactic(auto, unfolding(crate::specs::Survey::faulty, crate::specs::Written::cuts, tokens::specs::Formed::well_formed, tokens::specs::Formed::carries_offsets))]
 fn is_faulty(text: &[u8], slot: Slot) -> bool
     ensures { result ≡ faulty text.now slot }
 {
@@ -36,28 +30,20 @@ fn is_faulty(text: &[u8], slot: Slot) -> bool
     !is_well_formed(slot)
 }
 
-// The pass, which stops at the first token that may not be written.
-pub fn survey(table: &[u8; KINDS], text: &[u8], slots: &[u32], count: usize) -> Seen
-    requires { (table.now ≡ digits) × (length text.now ≤ limit) × (count ≤ limit) × (count ≤ room slots.now) }
+// The length of the whole text, or the place of the first token that may not be written.
+pub fn survey(text: &[u8], slots: &[u32], count: usize) -> Result<usize, Place>
+    requires { (length text.now ≤ limit) × (count ≤ limit) × (count ≤ room slots.now) }
     ensures { Surveyed text.now slots.now count result }
 {
     let mut total = 0;
-    let mut i = 0;
-    while i < count {
+    for i in 0..count {
         let slot = slot_at(slots, Place(i));
         if is_faulty(text, slot) {
-            return Seen {
-                place: Place(i),
-                total,
-            };
+            return Err(Place(i));
         }
-        total += token_len(table, text, slot);
-        i += 1;
+        total += token_len(text, slot);
     }
-    Seen {
-        place: Place(i),
-        total,
-    }
+    Ok(total)
 }
 
 // Why a list is refused whose first token that may not be written is at a place: 5 where any token is not well formed, before it or
@@ -66,10 +52,8 @@ pub fn refusal_at(text: &[u8], slots: &[u32], count: usize, at: Place) -> Refusa
     requires { (count ≤ room slots.now) × (at.0 < count) × (at.0 ≡ first_place (faulty text.now) (tokens_in slots.now count)) }
     ensures { refusal result ≡ (check_form (tokens_in slots.now count) then check_cuts text.now (tokens_in slots.now count)) }
 {
-    let cut = at.0;
-    let bad = first_malformed(slots, count).0;
-    if bad < count {
-        return Refusal::BadToken(Place(bad));
+    match first_malformed(slots, count) {
+        Some(bad) => Refusal::BadToken(bad),
+        None => Refusal::CutChar(at),
     }
-    Refusal::CutChar(Place(cut))
 }

@@ -6,7 +6,7 @@ ghost use Rattle.tokens.specs.Formed.{well_formed};
 ghost use Rattle.tokens.specs.Texts.{text_of};
 ghost use Rattle.writer.specs.Written.{slice_of, token_text};
 ghost use Rattle.writer.specs.Promise.{Put};
-ghost use Rattle.writer.specs.Survey.{beside, digits};
+ghost use Rattle.writer.specs.Survey.{beside};
 
 use crate::copy::{put, put_byte, put_char, put_fixed, put_mark};
 use crate::marks::quote;
@@ -17,60 +17,48 @@ use tokens::formed::carries_offsets;
 use tokens::kind;
 use tokens::slot::Slot;
 
-pub fn wide(x: u32) -> usize
-    ensures { result ≡ x }
-{
-    x as usize
-}
-
 // The part of the statement that a token's offsets name.
 fn slice_of(text: &[u8], slot: Slot) -> &[u8]
     ensures { result.now ≡ slice_of text.now slot }
 {
-    buffer_content(text, Offset(wide(slot.first)), Offset(wide(slot.second)))
+    buffer_content(text, Offset(slot.first as usize), Offset(slot.second as usize))
 }
 
 // How many kinds there are.
 pub const KINDS: usize = kind::UNKNOWN as usize + 1;
 
-// How many bytes of a token's text are not of its slice: a digit for each kind.
-const BESIDE: [u8; KINDS] =
-    *b"011111111111134451111123455456441232222221122112364532636465425675064491212112220000";
+// How many bytes of a token's text are not of its slice, by its kind.
+static BESIDE: [u8; KINDS] = [
+    0, 1, 1, 1, 1, 1, 1, 1, 1, 1, 1, 1, 1, 3, 4, 4, 5, 1, 1, 1, 1, 1, 2, 3, 4, 5, 5, 4, 5, 6, 4, 4,
+    1, 2, 3, 2, 2, 2, 2, 2, 2, 1, 1, 2, 2, 1, 1, 2, 3, 6, 4, 5, 3, 2, 6, 3, 6, 4, 6, 5, 4, 2, 5, 6,
+    7, 5, 0, 6, 4, 4, 9, 1, 2, 1, 2, 1, 1, 2, 2, 2, 0, 0, 0, 0,
+];
 
-// The table, for the public call to lend: a constant is laid out anew wherever a function names it.
-pub fn beside_table() -> [u8; KINDS]
-    ensures { result ≡ digits }
-{
-    BESIDE
-}
-
-// What the table says of a kind.
-fn beside_of(table: &[u8; KINDS], kind: u32) -> usize
-    requires { table.now ≡ digits }
+// What the table says of a kind; none past it.
+#[tactic(auto, using(crate::proofs::Surveying::beside_table))]
+fn beside_of(kind: u32) -> usize
     ensures { result ≡ beside kind }
 {
-    if kind < kind::UNKNOWN {
-        return (table[kind as usize] - b'0') as usize;
-    }
-    0
+    usize::from(BESIDE.get(kind as usize).copied().unwrap_or(0))
 }
 
 // How many bytes a token's text has. The kinds before Other first, which are the most frequent.
-pub fn token_len(table: &[u8; KINDS], text: &[u8], slot: Slot) -> usize
-    requires { (table.now ≡ digits) × (length text.now ≤ limit) }
+#[tactic(auto, using(crate::proofs::Surveying::len_carries, crate::proofs::Surveying::len_fixed, crate::proofs::ByKind::len_unknown, crate::proofs::ByKind::content_small, crate::proofs::Surveying::beside_small, tokens::proofs::Forms::carries_low))]
+pub fn token_len(text: &[u8], slot: Slot) -> usize
+    requires { length text.now ≤ limit }
     ensures { result ≡ length (token_text text.now slot) }
 {
     let kind = slot.kind;
     if kind < kind::OTHER {
-        return beside_of(table, kind);
+        return beside_of(kind);
     }
     if carries_offsets(kind) {
-        return slice_of(text, slot).len() + beside_of(table, kind);
+        return slice_of(text, slot).len() + beside_of(kind);
     }
     if kind == kind::UNKNOWN {
         return width_of(slot.first);
     }
-    beside_of(table, kind)
+    beside_of(kind)
 }
 
 // Both quotes, and the slice between them.
@@ -86,6 +74,7 @@ fn put_quoted(out: &mut [u8], at: usize, text: &[u8], slot: Slot) -> usize
 }
 
 // A token's text. The marks first, which are the most frequent.
+#[tactic(auto, using(crate::proofs::ByKind::text_charset, crate::proofs::ByKind::text_other, crate::proofs::ByKind::text_slice, crate::proofs::ByKind::text_unknown, crate::proofs::ByKind::text_quoted, crate::proofs::ByKind::text_fixed, crate::proofs::ByKind::formed_scalar, crate::proofs::Puts::put_as))]
 pub fn put_token(out: &mut [u8], at: usize, text: &[u8], slot: Slot) -> usize
     requires { (well_formed slot ≡ true) × (at + length (token_text text.now slot) ≤ length out.old) }
     ensures { Put out.old at (token_text text.now slot) result out.new }
@@ -100,8 +89,7 @@ pub fn put_token(out: &mut [u8], at: usize, text: &[u8], slot: Slot) -> usize
             let marked = put_byte(out, at, b'_');
             put(out, marked, slice_of(text, slot))
         }
-        kind::OTHER => put(out, at, slice_of(text, slot)),
-        kind::NUMERIC..=kind::NUMBERED_PLACEHOLDER => put(out, at, slice_of(text, slot)),
+        kind::OTHER | kind::NUMERIC..=kind::NUMBERED_PLACEHOLDER => put(out, at, slice_of(text, slot)),
         kind::UNKNOWN => put_char(out, at, slot.first),
         _ => put_fixed(out, at, kind),
     }

@@ -1,5 +1,5 @@
 -- `writer::fill` meets its contract. The invariant: the text so far lies over the front. Assumes nothing.
-use mathlib.Core.Path.{◌≡◌, refl, sym, ap, ◌∙◌}
+use mathlib.Core.Path.{refl, sym, ap, ◌∙◌}
 use native.Mathlib.Omega.{arith}
 use borrow.Author.Tests.{not-false}
 use lib.ListN.{length}
@@ -10,15 +10,12 @@ use Rattle.tokens.specs.Formed.{malformed, well_formed}
 use Rattle.tokens.proofs.Places.{place_le, place_none}
 use Rattle.tokens.proofs.Storing.{length-tokens, get_or-tokens}
 use Rattle.writer.specs.Written.{token_text, written}
-use Rattle.writer.proofs.Lists.{written-room, fill_more}
+use Rattle.writer.proofs.Lists.{written_room, fill_more}
 use Rattle.writer.proofs.fill.Goals as goal
 
 pub loop-i-init : goal.loop-i-init
 unfolding written tokens_from
-loop-i-init c = (omega arith, refl, refl, refl)
-
-pub slot_at-requires : goal.slot_at-requires
-slot_at-requires c = omega arith
+loop-i-init c = (refl, refl, refl)
 
 pub put_token-at-requires : goal.put_token-at-requires
 put_token-at-requires c =
@@ -28,20 +25,11 @@ put_token-at-requires c =
     let here = c.slot_at.ensures in
     let all = place_none malformed ts (bare kind.None) (omega (arith, place_le malformed ts, length-tokens x.slots.now 0 x.count)) i (omega (arith, length-tokens x.slots.now 0 x.count)) in (
       ap well_formed (here ∙ sym (get_or-tokens x.slots.now x.count i (bare kind.None) (omega arith))) ∙ not-false _ all,
-      omega (arith, ap (λ (t : Slot). length (token_text x.text.now t)) here, written-room x.text.now x.slots.now i x.count (omega arith)),
+      omega (arith, ap (λ (t : Slot). length (token_text x.text.now t)) here, written_room x.text.now x.slots.now i x.count (omega arith)),
     )
-
-pub overflow_add-i : goal.overflow_add-i
-overflow_add-i c = omega arith
-
-pub loop-i-smaller : goal.loop-i-smaller
-loop-i-smaller c = omega arith
 
 pub loop-i-preserved : goal.loop-i-preserved
 loop-i-preserved c =
     let x = c.args in
-    let m = fill_more x.text.now x.slots.now x.out.now c.loop-i.i c.slot_at.ensures c.loop-i.invariant.1 c.loop-i.invariant.3 c.put_token-at.ensures in
-    (omega arith, m.0, omega arith, m.1)
-
-pub returns : goal.returns
-returns c = let e : c.loop-i.i ≡ c.args.count = omega arith in cc
+    let m = fill_more x.text.now x.slots.now x.out.now c.loop-i.i c.slot_at.ensures c.loop-i.invariant.0 c.loop-i.invariant.2 c.put_token-at.ensures in
+    (m.0, omega arith, m.1)

