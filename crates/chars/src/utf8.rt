@@ -19,17 +19,15 @@ pub enum Step {
 pub struct BadAt(pub Offset);
 
 // A scalar value: up to U+10FFFF, and no surrogate.
+#[tactic(auto, using(crate::proofs::Bytes::scalars))]
 pub fn is_scalar(c: u32) -> bool
     ensures { result ≡ is_scalar c }
 {
-    match c {
-        0..=0xD7FF => true,
-        0xE000..=0x10FFFF => true,
-        _ => false,
-    }
+    matches!(c, 0..=0xD7FF | 0xE000..=0x10FFFF)
 }
 
 // A following byte, 10xxxxxx: no character starts at it.
+#[tactic(auto, using(crate::proofs::Bytes::mask_follows))]
 pub fn is_following(b: u8) -> bool
     ensures { result ≡ follows b }
 {
@@ -37,6 +35,7 @@ pub fn is_following(b: u8) -> bool
 }
 
 // How many bytes a scalar value takes.
+#[tactic(auto, using(crate::proofs::Bytes::widths))]
 pub fn width_of(c: u32) -> usize
     ensures { result ≡ width c }
 {
@@ -158,6 +157,7 @@ fn barred_four(b: u8) -> u8
 }
 
 // Whether a lead byte and the byte after it start a character of three bytes: nothing overlong, and no surrogate.
+#[tactic(auto, using(crate::proofs::Blocks::three_fits))]
 fn fits_three(a: u8, b: u8) -> bool
     ensures { result ≡ fits_three a b }
 {
@@ -165,6 +165,7 @@ fn fits_three(a: u8, b: u8) -> bool
 }
 
 // The same for four bytes: nothing overlong, and nothing above U+10FFFF.
+#[tactic(auto, using(crate::proofs::Blocks::four_fits))]
 fn fits_four(a: u8, b: u8) -> bool
     ensures { result ≡ fits_four a b }
 {
@@ -219,6 +220,7 @@ fn width_at(text: &[u8], at: usize) -> usize
 }
 
 // Whether b is in place after p3, p2 and p1. It is compiled without a branch, so that the loop below becomes vector instructions.
+#[tactic(auto, unfolding(crate::specs::Steps::in_place))]
 fn in_place(p3: u8, p2: u8, p1: u8, b: u8) -> bool
     ensures { result ≡ in_place p3 p2 p1 b }
 {
