@@ -1,6 +1,6 @@
 // UTF-8 by RFC 3629: one character at an offset, and the check of a whole text.
 // Document 01, "Characters". The Rust has `char_indices` here; this steps through the lent bytes.
-ghost use Rattle.std.specs.Prelude.{◌≡◌, ℕ, ◌≤◌, ◌<◌, length, get_or, drop};
+ghost use Rattle.std.specs.Prelude.{◌≡◌, ◌≤◌, ◌<◌, length, get_or, drop, fold, bit_or};
 ghost use Rattle.chars.specs.Utf8.{front, follows, is_scalar, joined, ranged, width, first_bad};
 ghost use Rattle.chars.specs.Steps.{scalar_of, size_of, fits_three, fits_four, barred_three, barred_four, in_place, Settled, step_at, verdict_of};
 
@@ -125,15 +125,9 @@ pub fn step_at(text: &[u8], offset: Offset) -> Step
 
 // All bits that some byte of the text has: below 0x80 where every byte is ASCII.
 fn any_bits(text: &[u8]) -> u8
-    ensures { (k : ℕ) → get_or text.now k 0 ≤ result }
+    ensures { result ≡ fold bit_or 0 text.now }
 {
-    let mut bits = 0;
-    let mut i = 0;
-    while i < text.len() {
-        bits = bits | text[i];
-        i += 1;
-    }
-    bits
+    text.iter().fold(0, |bits, b| bits | *b)
 }
 
 // The lead byte of three bytes that may not stand before b: they would be overlong, or a surrogate.
