@@ -229,32 +229,28 @@ fn settle_blocks(text: &[u8]) -> usize
     ensures { Settled text.now result }
 {
     let end = text.len() - text.len() % 32;
+    let blocks = &text[..end];
     let mut good = true;
     let mut p3 = 0;
     let mut p2 = 0;
     let mut p1 = 0;
-    let mut i = 0;
-    while i < end {
-        let b = text[i];
-        good = good & in_place(p3, p2, p1, b);
+    for &b in blocks {
+        good &= in_place(p3, p2, p1, b);
         p3 = p2;
         p2 = p1;
         p1 = b;
-        i += 1;
     }
     if !good {
-        return 0;
+        0
+    } else if 0xC0 <= p1 {
+        end - 1
+    } else if 0xE0 <= p2 {
+        end - 2
+    } else if 0xF0 <= p3 {
+        end - 3
+    } else {
+        end
     }
-    if 0xC0 <= p1 {
-        return i - 1;
-    }
-    if 0xE0 <= p2 {
-        return i - 2;
-    }
-    if 0xF0 <= p3 {
-        return i - 3;
-    }
-    i
 }
 
 // The check of a whole text: one that is all ASCII is settled at once, another by blocks, and what they leave is passed by widths.
