@@ -2,7 +2,7 @@
 // Document 01, "Characters". The Rust has `char_indices` here; this steps through the lent bytes.
 ghost use Rattle.std.specs.Prelude.{◌≡◌, ◌≤◌, ◌<◌, length, get_or, drop, fold, bit_or};
 ghost use Rattle.chars.specs.Utf8.{front, follows, is_scalar, joined, ranged, width, first_bad};
-ghost use Rattle.chars.specs.Steps.{scalar_of, size_of, fits_three, fits_four, barred_three, barred_four, in_place, Settled, step_at, verdict_of};
+ghost use Rattle.chars.specs.Steps.{scalar_of, size_of, fits_three, fits_four, barred, in_place, Settled, step_at, verdict_of};
 
 use crate::offset::Offset;
 
@@ -130,24 +130,11 @@ fn any_bits(text: &[u8]) -> u8
     text.iter().fold(0, |bits, b| bits | *b)
 }
 
-// The lead byte of three bytes that may not stand before b: they would be overlong, or a surrogate.
-fn barred_three(b: u8) -> u8
-    ensures { result ≡ barred_three b }
+// The lead byte that may not stand before b: LOW before one below SPLIT, HIGH before another.
+fn barred<const SPLIT: u8, const LOW: u8, const HIGH: u8>(b: u8) -> u8
+    ensures { result ≡ barred SPLIT LOW HIGH b }
 {
-    if b < 0xA0 {
-        return 0xE0;
-    }
-    0xED
-}
-
-// The same for four bytes: they would be overlong, or above U+10FFFF.
-fn barred_four(b: u8) -> u8
-    ensures { result ≡ barred_four b }
-{
-    if b < 0x90 {
-        return 0xF0;
-    }
-    0xF4
+    if b < SPLIT { LOW } else { HIGH }
 }
 
 // Whether a lead byte and the byte after it start a character of three bytes: nothing overlong, and no surrogate.
@@ -155,7 +142,7 @@ fn barred_four(b: u8) -> u8
 fn fits_three(a: u8, b: u8) -> bool
     ensures { result ≡ fits_three a b }
 {
-    a != barred_three(b)
+    a != barred::<0xA0, 0xE0, 0xED>(b)
 }
 
 // The same for four bytes: nothing overlong, and nothing above U+10FFFF.
@@ -163,7 +150,7 @@ fn fits_three(a: u8, b: u8) -> bool
 fn fits_four(a: u8, b: u8) -> bool
     ensures { result ≡ fits_four a b }
 {
-    (a != barred_four(b)) & (a < 0xF5)
+    (a != barred::<0x90, 0xF0, 0xF4>(b)) & (a < 0xF5)
 }
 
 // How many bytes the character at an offset takes; 0 where none starts. No value is joined.
