@@ -30,7 +30,7 @@ fn rt(tables: &[(&str, Vec<u32>)]) {
         if 0 < place {
             println!();
         }
-        println!("pub const {}: [u32; {}] = [", name.to_uppercase(), flat.len());
+        println!("pub static {}: [u32; {}] = [", name.to_uppercase(), flat.len());
         let mut line = String::from("   ");
         for number in flat {
             let next = format!(" {number},");

@@ -4,6 +4,7 @@
 -- mask_follows            the code's mask tests just that
 -- scalar_low, .. _beyond  is_scalar by the four ranges
 -- width_1 .. width_4      width by its four ranges
+-- scalars, widths         these laws, as the functions name them
 -- Assumes nothing.
 use mathlib.Core.Path.{◌≡◌, refl, ap, ◌∙◌}
 use mathlib.Core.Bool.{Bool, true, false, ◌&&◌, false≢true}
@@ -83,3 +84,7 @@ width_4 s l =
     let k : 0x80 ≤ s = omega arith in
     let j : 0x800 ≤ s = omega arith in
     simp (le-ltb s 0x80 k, le-ltb s 0x800 j, le-ltb s 0x10000 l)
+
+pub ruleset scalars = (scalar_low, scalar_between, scalar_high, scalar_beyond)
+
+pub ruleset widths = (width_1, width_2, width_3, width_4)

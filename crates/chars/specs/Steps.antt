@@ -49,12 +49,16 @@ fits_three a b = cond (eqb a 0xE0) (leb 0xA0 b) (cond (eqb a 0xED) (ltb b 0xA0) 
 unfoldable pub fits_four : ℕ → ℕ → Bool
 fits_four a b = cond (eqb a 0xF0) (leb 0x90 b) (cond (eqb a 0xF4) (ltb b 0x90) (ltb a 0xF4))
 
+-- the lead byte that does not fit before b: `low` before one below `split`, `high` before another
+abbrev pub barred : ℕ → ℕ → ℕ → ℕ → ℕ
+barred split low high b = cond (ltb b split) low high
+
 -- the lead bytes of three and of four bytes that do not fit before b
 abbrev pub barred_three : ℕ → ℕ
-barred_three b = cond (ltb b 0xA0) 0xE0 0xED
+barred_three b = barred 0xA0 0xE0 0xED b
 
 abbrev pub barred_four : ℕ → ℕ
-barred_four b = cond (ltb b 0x90) 0xF0 0xF4
+barred_four b = barred 0x90 0xF0 0xF4 b
 
 -- b is in place after p3, p2 and p1: it follows where a byte is due, and nowhere else; and p1, where it leads, fits before b
 unfoldable pub in_place : ℕ → ℕ → ℕ → ℕ → Bool

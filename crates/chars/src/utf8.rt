@@ -1,8 +1,8 @@
 // UTF-8 by RFC 3629: one character at an offset, and the check of a whole text.
 // Document 01, "Characters". The Rust has `char_indices` here; this steps through the lent bytes.
-ghost use Rattle.std.specs.Prelude.{◌≡◌, ℕ, ◌≤◌, ◌<◌, length, get_or, drop};
+ghost use Rattle.std.specs.Prelude.{◌≡◌, ◌≤◌, ◌<◌, length, get_or, drop, fold, bit_or};
 ghost use Rattle.chars.specs.Utf8.{front, follows, is_scalar, joined, ranged, width, first_bad};
-ghost use Rattle.chars.specs.Steps.{scalar_of, size_of, fits_three, fits_four, barred_three, barred_four, in_place, Settled, step_at, verdict_of};
+ghost use Rattle.chars.specs.Steps.{scalar_of, size_of, fits_three, fits_four, barred, in_place, Settled, step_at, verdict_of};
 
 use crate::offset::Offset;
 
@@ -19,17 +19,15 @@ pub enum Step {
 pub struct BadAt(pub Offset);
 
 // A scalar value: up to U+10FFFF, and no surrogate.
+#[tactic(auto, using(crate::proofs::Bytes::scalars))]
 pub fn is_scalar(c: u32) -> bool
     ensures { result ≡ is_scalar c }
 {
-    match c {
-        0..=0xD7FF => true,
-        0xE000..=0x10FFFF => true,
-        _ => false,
-    }
+    matches!(c, 0..=0xD7FF | 0xE000..=0x10FFFF)
 }
 
 // A following byte, 10xxxxxx: no character starts at it.
+#[tactic(auto, using(crate::proofs::Bytes::mask_follows))]
 pub fn is_following(b: u8) -> bool
     ensures { result ≡ follows b }
 {
@@ -37,6 +35,7 @@ pub fn is_following(b: u8) -> bool
 }
 
 // How many bytes a scalar value takes.
+#[tactic(auto, using(crate::proofs::Bytes::widths))]
 pub fn width_of(c: u32) -> usize
     ensures { result ≡ width c }
 {
@@ -126,49 +125,32 @@ pub fn step_at(text: &[u8], offset: Offset) -> Step
 
 // All bits that some byte of the text has: below 0x80 where every byte is ASCII.
 fn any_bits(text: &[u8]) -> u8
-    ensures { (k : ℕ) → get_or text.now k 0 ≤ result }
+    ensures { result ≡ fold bit_or 0 text.now }
 {
-    let mut bits = 0;
-    let mut i = 0;
-    while i < text.len() {
-        bits = bits | text[i];
-        i += 1;
-    }
-    bits
+    text.iter().fold(0, |bits, b| bits | *b)
 }
 
-// The lead byte of three bytes that may not stand before b: they would be overlong, or a surrogate.
-fn barred_three(b: u8) -> u8
-    ensures { result ≡ barred_three b }
+// The lead byte that may not stand before b: LOW before one below SPLIT, HIGH before another.
+fn barred<const SPLIT: u8, const LOW: u8, const HIGH: u8>(b: u8) -> u8
+    ensures { result ≡ barred SPLIT LOW HIGH b }
 {
-    if b < 0xA0 {
-        return 0xE0;
-    }
-    0xED
-}
-
-// The same for four bytes: they would be overlong, or above U+10FFFF.
-fn barred_four(b: u8) -> u8
-    ensures { result ≡ barred_four b }
-{
-    if b < 0x90 {
-        return 0xF0;
-    }
-    0xF4
+    if b < SPLIT { LOW } else { HIGH }
 }
 
 // Whether a lead byte and the byte after it start a character of three bytes: nothing overlong, and no surrogate.
+#[tactic(auto, using(crate::proofs::Blocks::three_fits))]
 fn fits_three(a: u8, b: u8) -> bool
     ensures { result ≡ fits_three a b }
 {
-    a != barred_three(b)
+    a != barred::<0xA0, 0xE0, 0xED>(b)
 }
 
 // The same for four bytes: nothing overlong, and nothing above U+10FFFF.
+#[tactic(auto, using(crate::proofs::Blocks::four_fits))]
 fn fits_four(a: u8, b: u8) -> bool
     ensures { result ≡ fits_four a b }
 {
-    (a != barred_four(b)) & (a < 0xF5)
+    (a != barred::<0x90, 0xF0, 0xF4>(b)) & (a < 0xF5)
 }
 
 // How many bytes the character at an offset takes; 0 where none starts. No value is joined.
@@ -219,6 +201,7 @@ fn width_at(text: &[u8], at: usize) -> usize
 }
 
 // Whether b is in place after p3, p2 and p1. It is compiled without a branch, so that the loop below becomes vector instructions.
+#[tactic(auto, unfolding(crate::specs::Steps::in_place))]
 fn in_place(p3: u8, p2: u8, p1: u8, b: u8) -> bool
     ensures { result ≡ in_place p3 p2 p1 b }
 {
@@ -233,32 +216,28 @@ fn settle_blocks(text: &[u8]) -> usize
     ensures { Settled text.now result }
 {
     let end = text.len() - text.len() % 32;
+    let blocks = &text[..end];
     let mut good = true;
     let mut p3 = 0;
     let mut p2 = 0;
     let mut p1 = 0;
-    let mut i = 0;
-    while i < end {
-        let b = text[i];
-        good = good & in_place(p3, p2, p1, b);
+    for &b in blocks {
+        good &= in_place(p3, p2, p1, b);
         p3 = p2;
         p2 = p1;
         p1 = b;
-        i += 1;
     }
     if !good {
-        return 0;
+        0
+    } else if 0xC0 <= p1 {
+        end - 1
+    } else if 0xE0 <= p2 {
+        end - 2
+    } else if 0xF0 <= p3 {
+        end - 3
+    } else {
+        end
     }
-    if 0xC0 <= p1 {
-        return i - 1;
-    }
-    if 0xE0 <= p2 {
-        return i - 2;
-    }
-    if 0xF0 <= p3 {
-        return i - 3;
-    }
-    i
 }
 
 // The check of a whole text: one that is all ASCII is settled at once, another by blocks, and what they leave is passed by widths.

@@ -1,19 +1,14 @@
--- `chars::class::is_numeric` meets its contract: each half gives the class by its own contract. Assumes nothing.
-use borrow.Author.Rules.{rules}
-use native.Mathlib.Omega.{arith}
+-- `chars::class::is_numeric` meets its contract: the table in the source is the list of specs/, which meets the rule. Assumes nothing.
+use Rattle.chars.specs.Class.{numeric}
+use Rattle.chars.specs.Pairs.{numeric_pairs}
+use Rattle.chars.proofs.Rule.{numeric-meets}
 use Rattle.chars.proofs.class.is_numeric.Goals as goal
 
-pub overflow_cast-c : goal.overflow_cast-c
-overflow_cast-c c = search rules
+pub lookup-requires : goal.lookup-requires
+unfolding numeric_pairs
+lookup-requires c = numeric-meets
 
-pub ascii_numeric-requires : goal.ascii_numeric-requires
-ascii_numeric-requires c = omega arith
-
-pub returns-then-c-lt128 : goal.returns-then-c-lt128
-returns-then-c-lt128 c = c.ascii_numeric.ensures
-
-pub table_numeric-requires : goal.table_numeric-requires
-table_numeric-requires c = search rules
-
-pub returns : goal.returns
-returns c = c.table_numeric.ensures
+-- the answer of the search, in the list of specs/
+pub returns-else-c-lt128 : goal.returns-else-c-lt128
+unfolding numeric numeric_pairs
+returns-else-c-lt128 c = c.lookup.ensures

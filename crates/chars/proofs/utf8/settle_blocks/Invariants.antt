@@ -2,13 +2,8 @@
 -- passed holds, with the last three of them. Assumes nothing.
 use mathlib.Core.Path.{◌≡◌}
 use mathlib.Core.Bool.{true}
-use Prim.Native.Nat.{◌-◌}
-use lib.ListN.{length}
 use Rattle.chars.proofs.Blocks.{Passed}
 use Rattle.chars.proofs.utf8.settle_blocks.Given as goal
 
-abbrev pub invariant-loop-i : goal.invariant-loop-i
-invariant-loop-i l = l.good ≡ true → Passed l.text l.i l.p3 l.p2 l.p1
-
-abbrev pub decreases-loop-i : goal.decreases-loop-i
-decreases-loop-i l = length l.text - l.i
+abbrev pub invariant-loop-b : goal.invariant-loop-b
+invariant-loop-b l = l.good ≡ true → Passed l.text l.b-index l.p3 l.p2 l.p1

@@ -6,6 +6,7 @@ use borrow.Author.Rules.{rules}
 use Rattle.chars.specs.Steps.{verdict_of}
 use Rattle.chars.proofs.Stepping.{sized_bad, checked_all, ascii_valid}
 use Rattle.chars.proofs.Blocks.{settled_on}
+use Rattle.chars.proofs.Gathered.{gathered}
 use Rattle.chars.proofs.utf8.validate.Goals as goal
 
 pub any_bits-requires : goal.any_bits-requires
@@ -14,7 +15,7 @@ any_bits-requires c = search rules
 pub returns-then-any_bits-lt128 : goal.returns-then-any_bits-lt128
 returns-then-any_bits-lt128 c =
     let text = c.args.text.now in
-    ap verdict_of (sym (ascii_valid text (λ k. omega (arith, c.any_bits.ensures k))))
+    ap verdict_of (sym (ascii_valid text (λ k. omega (arith, gathered 0 text k))))
 
 pub settle_blocks-at-requires : goal.settle_blocks-at-requires
 settle_blocks-at-requires c = search rules
