@@ -1,5 +1,6 @@
 // Which slots are well formed. Document 01, "Token slots".
 ghost use Rattle.std.specs.Prelude.{◌≡◌, ◌≤◌};
+ghost use Rattle.tokens.specs.Kinds.{is_quoted};
 ghost use Rattle.tokens.specs.Slots.{room, tokens_in};
 ghost use Rattle.tokens.specs.Formed.{carries_offsets, well_formed, malformed, first_place, place_below};
 
@@ -16,6 +17,10 @@ const N: u32 = Kind::N as u32;
 
 const CHARSET: u32 = Kind::Charset as u32;
 
+const BACKTICKED: u32 = Kind::Backticked as u32;
+
+const SINGLE_QUOTED: u32 = Kind::SingleQuoted as u32;
+
 const NUMBERED_PLACEHOLDER: u32 = Kind::NumberedPlaceholder as u32;
 
 const UNKNOWN: u32 = Kind::Unknown as u32;
@@ -28,6 +33,14 @@ pub fn carries_offsets(kind: u32) -> bool
         OTHER | CHARSET..=NUMBERED_PLACEHOLDER => true,
         _ => false,
     }
+}
+
+// Whether a kind has a quote before and after its slice.
+#[tactic(auto, unfolding(crate::specs::Kinds::is_quoted))]
+pub fn is_quoted(kind: u32) -> bool
+    ensures { result ≡ is_quoted kind }
+{
+    matches!(kind, BACKTICKED..=SINGLE_QUOTED)
 }
 
 // Whether the two numbers of a slot are such as its kind may carry.

@@ -1,78 +1,47 @@
--- The text of a token by its kind: a premise for each test, which `omega arith` finds at a need.
--- quoted_in, quoted_low, quoted_high   is_quoted by the ranges of the kinds
--- text_quoted, _charset, _other, _slice, _unknown, _fixed   token_text by the kind
--- len_unknown       the length of an Unknown's text
+-- The text of a token by its kind.
+-- text_quoted, _marked, _unknown, _fixed   token_text by the tests of the kind
 -- below_or          one number is below another, or not
 -- content_small, token_small   how long a slice and a token's text can be
 -- formed_scalar     a well-formed Unknown holds at most U+10FFFF
 -- Assumes nothing.
-use mathlib.Core.Path.{◌≡◌, refl, ap, sym, ◌∙◌}
+use mathlib.Core.Path.{◌≡◌, refl, sym, ◌∙◌}
 use mathlib.Core.Logic.{◌⊎◌, inl, inr, ⊎_elim}
-use mathlib.Core.Bool.{Bool, true, false, cond, and-false, false≢true}
-use mathlib.Core.List.{List, [], ◌++◌}
+use mathlib.Core.Bool.{Bool, true, false, cond, false≢true}
+use mathlib.Core.List.{List, ◌++◌}
 use Prim.Native.Nat.{ℕ, ◌+◌, ◌≤◌, ◌<◌}
 use native.Mathlib.Omega.{arith}
 use lib.Dec.{eqb, ltb}
 use lib.ListN.{length, length-append, length-take, length-drop}
-use borrow.Author.Tests.{le-leb, lt-leb, eq-eqb, ne_eqb, ltb-true, ltb-false}
-use Rattle.chars.specs.Utf8.{is_scalar, encode, width}
+use borrow.Author.Tests.{eq-eqb, ne_eqb, ltb-true, ltb-false}
+use Rattle.chars.specs.Utf8.{is_scalar, encode}
 use Rattle.chars.proofs.Bytes.{and_l, scalar_beyond}
-use Rattle.chars.proofs.Rfc.{width-encode}
 use Rattle.chars.proofs.Whole.{encode_1, encode_2, encode_3, encode_4}
 use Rattle.tokens.specs.declared.slot.Slot.{Slot}
 use Rattle.tokens.specs.Kinds as kind
 use Rattle.tokens.specs.Formed.{carries_offsets, well_formed}
 use Rattle.tokens.specs.Content.{content}
-use Rattle.tokens.specs.Texts.{texts, text_of}
-use Rattle.tokens.proofs.Forms.{carries_other, carries_in, carries_low, carries_high, formed_unknown}
+use Rattle.tokens.specs.Texts.{text_of}
+use Rattle.tokens.proofs.Forms.{formed_unknown}
 use Rattle.tokens.proofs.Parts.{content-within, content_back, content_beyond}
-use Rattle.tokens.proofs.Rows.{text_small, text_none}
+use Rattle.tokens.proofs.Rows.{text_small}
 use Rattle.writer.specs.Written.{slice_of, token_text}
 
-module _ (k : ℕ) where
-  pub quoted_in : kind.Backticked ≤ k → k ≤ kind.SingleQuoted → kind.is_quoted k ≡ true
-  unfolding kind.is_quoted
-  quoted_in h g = simp (le-leb kind.Backticked k h, le-leb k kind.SingleQuoted g)
-
-  pub quoted_low : k < kind.Backticked → kind.is_quoted k ≡ false
-  unfolding kind.is_quoted
-  quoted_low h = simp (lt-leb kind.Backticked k h)
-
-  pub quoted_high : kind.SingleQuoted < k → kind.is_quoted k ≡ false
-  unfolding kind.is_quoted
-  quoted_high h = simp (lt-leb k kind.SingleQuoted h, and-false)
-
 module _ (text : List ℕ) (t : Slot) where
-  pub text_quoted : kind.Backticked ≤ t.kind → t.kind ≤ kind.SingleQuoted → token_text text t ≡ text_of t.kind ++ slice_of text t ++ text_of t.kind
+  pub text_quoted : kind.is_quoted t.kind ≡ true → token_text text t ≡ text_of t.kind ++ slice_of text t ++ text_of t.kind
   unfolding token_text
-  text_quoted h g = simp (quoted_in t.kind h g)
+  text_quoted q = simp q
 
-  pub text_charset : t.kind ≡ kind.Charset → token_text text t ≡ text_of t.kind ++ slice_of text t
+  pub text_marked : kind.is_quoted t.kind ≡ false → carries_offsets t.kind ≡ true → token_text text t ≡ text_of t.kind ++ slice_of text t
   unfolding token_text
-  text_charset e = simp (quoted_low t.kind (omega arith), carries_in t.kind (omega arith) (omega arith))
+  text_marked q c = simp (q, c)
 
-  pub text_other : t.kind ≡ kind.Other → token_text text t ≡ slice_of text t
+  pub text_unknown : kind.is_quoted t.kind ≡ false → carries_offsets t.kind ≡ false → t.kind ≡ kind.Unknown → token_text text t ≡ encode t.first
   unfolding token_text
-  text_other e =
-      simp (quoted_low t.kind (omega arith), carries_other t.kind e) (ap (λ (x : List ℕ). x ++ slice_of text t) (ap text_of e ∙ other))
-    where
-      other : text_of kind.Other ≡ []
-      other = unfold text_of texts in refl
+  text_unknown q c e = simp (q, c, eq-eqb t.kind kind.Unknown e)
 
-  pub text_slice : kind.SingleQuoted < t.kind → t.kind ≤ kind.NumberedPlaceholder → token_text text t ≡ slice_of text t
+  pub text_fixed : kind.is_quoted t.kind ≡ false → carries_offsets t.kind ≡ false → (t.kind ≡ kind.Unknown → ⊥) → token_text text t ≡ text_of t.kind
   unfolding token_text
-  text_slice h g =
-      simp (quoted_high t.kind h, carries_in t.kind (omega arith) g) (ap (λ (x : List ℕ). x ++ slice_of text t) (text_none t.kind h))
-
-  pub text_unknown : t.kind ≡ kind.Unknown → token_text text t ≡ encode t.first
-  unfolding token_text
-  text_unknown e = simp (quoted_high t.kind (omega arith), carries_high t.kind (omega arith), eq-eqb t.kind kind.Unknown e)
-
-  pub text_fixed : (t.kind ≡ kind.Charset → ⊥) → (t.kind ≡ kind.Other → ⊥) → (t.kind ≡ kind.Unknown → ⊥)
-      → (t.kind < kind.Backticked) ⊎ (kind.NumberedPlaceholder < t.kind) → token_text text t ≡ text_of t.kind
-  unfolding token_text
-  text_fixed c o n (inl h) = simp (quoted_low t.kind h, carries_low t.kind o (omega arith), ne_eqb t.kind kind.Unknown n)
-  text_fixed c o n (inr h) = simp (quoted_high t.kind (omega arith), carries_high t.kind h, ne_eqb t.kind kind.Unknown n)
+  text_fixed q c n = simp (q, c, ne_eqb t.kind kind.Unknown n)
 
 -- ---- how long
 pub below_or : (a b : ℕ) → (a < b) ⊎ (b ≤ a)
@@ -114,10 +83,6 @@ token_small text t = go (kind.is_quoted t.kind) (carries_offsets t.kind) (eqb t.
     go false true c = simp length-append (omega (arith, mark, part))
     go false false true = omega (arith, encode_small t.first)
     go false false false = omega (arith, mark)
-
-module _ (text : List ℕ) (t : Slot) where
-  pub len_unknown : t.kind ≡ kind.Unknown → width t.first ≡ length (token_text text t)
-  len_unknown e = rw (text_unknown text t e) (width-encode t.first)
 
 pub formed_scalar : (t : Slot) → well_formed t ≡ true → t.kind ≡ kind.Unknown → t.first < 0x110000
 formed_scalar t e k = go (below_or t.first 0x110000)

@@ -1,21 +1,14 @@
--- What the functions of this crate promise each other: which tokens may not be written, how many bytes stand beside a token's slice, and one
--- pass over a token list. The writer's own promise is Promise.antt. Assumes nothing.
-use Rattle.std.specs.Prelude.{◌≡◌, Bool, Result, Ok, Err, cond, ◌||◌, List, ℕ, ◌+◌, ◌<◌, length}
+-- What the functions of this crate promise each other: which tokens may not be written, and one pass over a token list. The writer's own promise is Promise.antt. Assumes nothing.
+use Rattle.std.specs.Prelude.{◌≡◌, Bool, Result, Ok, Err, ◌||◌, List, ℕ, ◌<◌, length}
 use Rattle.tokens.specs.declared.place.Place.{Place}
 use Rattle.tokens.specs.declared.slot.Slot.{Slot}
-use Rattle.tokens.specs.Kinds as kind
 use Rattle.tokens.specs.Slots.{tokens_in}
 use Rattle.tokens.specs.Formed.{malformed, first_place}
-use Rattle.tokens.specs.Texts.{text_of}
 use Rattle.writer.specs.Written.{written, cuts}
 
 -- a token that may not be written: refusal 5 or 6
 unfoldable pub faulty : List ℕ → Slot → Bool
 faulty text t = malformed t || cuts text t
-
--- how many bytes of a token's text are not of its slice: the fixed text, and the closing quote
-unfoldable pub beside : ℕ → ℕ
-beside k = length (text_of k) + cond (kind.is_quoted k) (length (text_of k)) 0
 
 -- one pass over n tokens: the length of their text, where each may be written; or the first that may not
 abbrev pub Surveyed : List ℕ → List ℕ → ℕ → Result ℕ Place → Type 0

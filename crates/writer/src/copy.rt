@@ -1,55 +1,20 @@
 // Copies into the lent output: what the Rust's growing `out` does by `push` and `push_str`.
-ghost use Rattle.std.specs.Prelude.{[], ◌∷◌, ◌+◌, ◌≤◌, ◌<◌, length};
+ghost use Rattle.std.specs.Prelude.{◌+◌, ◌*◌, ◌≤◌, ◌<◌, length};
 ghost use Rattle.chars.specs.Utf8.{encode};
-ghost use Rattle.tokens.specs.Kinds as kinds;
-ghost use Rattle.tokens.specs.Texts.{text_of};
 ghost use Rattle.writer.specs.Promise.{Put};
 
-use crate::marks::mark;
-use tokens::kind;
-use tokens::texts::fixed_text;
-
-// Copies src into out behind the first `at` bytes, and answers how many there are then.
+// Copies src into out behind the first `at` bytes, and answers how many there are then. Half of all texts have one byte, which is stored.
+#[tactic(auto, using(crate::proofs::Puts::put_one))]
 pub fn put(out: &mut [u8], at: usize, src: &[u8]) -> usize
     requires { at + length src.now ≤ length out.old }
     ensures { Put out.old at src.now result out.new }
 {
     let end = at + src.len();
-    out[at..end].copy_from_slice(src);
+    match src {
+        [byte] => out[at] = *byte,
+        _ => out[at..end].copy_from_slice(src),
+    }
     end
-}
-
-// One byte.
-#[tactic(auto, using(crate::proofs::Puts::put_one))]
-pub fn put_byte(out: &mut [u8], at: usize, byte: u8) -> usize
-    requires { at < length out.old }
-    ensures { Put out.old at (byte ∷ []) result out.new }
-{
-    out[at] = byte;
-    at + 1
-}
-
-// A mark of one byte, or nothing for None.
-pub fn put_mark(out: &mut [u8], at: usize, kind: u32) -> usize
-    requires { (kind < kinds.Ellipsis) × (at + length (text_of kind) ≤ length out.old) }
-    ensures { Put out.old at (text_of kind) result out.new }
-{
-    match mark(kind) {
-        Some(byte) => put_byte(out, at, byte),
-        None => at,
-    }
-}
-
-// The fixed text of a kind. Equal is the one frequent text of one byte that is no mark.
-#[tactic(auto, unfolding(tokens::specs::Texts::text_of, tokens::specs::Texts::texts))]
-pub fn put_fixed(out: &mut [u8], at: usize, kind: u32) -> usize
-    requires { at + length (text_of kind) ≤ length out.old }
-    ensures { Put out.old at (text_of kind) result out.new }
-{
-    if kind == kind::EQUAL {
-        return put_byte(out, at, b'=');
-    }
-    put(out, at, fixed_text(kind))
 }
 
 // A scalar value in UTF-8, as RFC 3629 writes it.

@@ -18,7 +18,6 @@ use tokens::slot::slot_at;
 
 pub mod copy;
 pub mod cut;
-pub mod marks;
 pub mod survey;
 pub mod token;
 

@@ -9,25 +9,17 @@ ghost use Rattle.writer.specs.Survey.{faulty, Surveyed};
 
 use crate::cut::is_cut;
 use crate::token::token_len;
-use tokens::formed::{carries_offsets, first_malformed, is_well_formed};
-use tokens::kind;
+use tokens::formed::{first_malformed, is_well_formed};
 use tokens::place::Place;
 use tokens::refusal::Refusal;
 use tokens::slot::{Slot, slot_at};
 
-// Whether a token is not well formed or cuts a character. The kinds before Other first, which are the most frequent.
-#[tactic(auto, unfolding(crate::specs::Survey::faulty, crate::specs::Written::cuts, tokens::specs::Formed::well_formed, tokens::specs::Formed::carries_offsets))]
+// Whether a token is not well formed or cuts a character.
+#[tactic(auto, unfolding(crate::specs::Survey::faulty))]
 fn is_faulty(text: &[u8], slot: Slot) -> bool
     ensures { result ≡ faulty text.now slot }
 {
-    let kind = slot.kind;
-    if kind < kind::OTHER {
-        return slot.first != 0 || slot.second != 0;
-    }
-    if carries_offsets(kind) {
-        return is_cut(text, slot);
-    }
-    !is_well_formed(slot)
+    !is_well_formed(slot) || is_cut(text, slot)
 }
 
 // The length of the whole text, or the place of the first token that may not be written.

@@ -1,37 +1,79 @@
--- `writer::token::put_token` meets its contract: one law for each group of kinds, the marks first. Assumes nothing.
+-- `writer::token::put_token` meets its contract: one law for each test of the kind. Assumes nothing.
 use mathlib.Core.Path.{◌≡◌, sym, ap, ◌∙◌}
-use mathlib.Core.List.{[], ◌∷◌, ◌++◌}
-use Prim.Native.Nat.{ℕ}
-use Prim.Native.Char.{code}
+use mathlib.Core.Bool.{true}
 use native.Mathlib.Omega.{arith}
 use lib.ListN.{length, length-append}
-use Rattle.tokens.specs.Kinds as kind
-use Rattle.tokens.specs.Texts.{texts, text_of}
+use Rattle.tokens.specs.Kinds.{is_quoted}
+use Rattle.tokens.specs.Texts.{text_of}
 use Rattle.writer.specs.Written.{slice_of}
-use Rattle.writer.proofs.Puts.{put_as, put_then}
-use Rattle.writer.proofs.ByKind.{text_charset}
+use Rattle.writer.proofs.Puts.{three_length, put_as, put_then}
+use Rattle.writer.proofs.ByKind.{text_quoted, text_marked, text_unknown, text_fixed, formed_scalar}
 use Rattle.writer.proofs.token.put_token.Goals as goal
 
--- the mark of a charset
-underline : {k : ℕ} → k ≡ kind.Charset → text_of k ≡ code "_" ∷ []
-unfolding text_of texts
-underline e = ap text_of e
-
-pub put_byte-marked-requires : goal.put_byte-marked-requires
-put_byte-marked-requires c =
+-- the parts of a quoted text
+pub put-opened-requires : goal.put-opened-requires
+put-opened-requires c =
     let x = c.args in
-    let charset = c.in-76.is in
-    omega (arith, ap length (underline charset), ap length (text_charset x.text.now x.slot charset), length-append (text_of x.slot.kind) (slice_of x.text.now x.slot))
+    let q : is_quoted x.slot.kind ≡ true = sym c.is_quoted.ensures ∙ c.if-is_quoted.true in
+    omega (arith, ap length c.fixed_text-mark.ensures, ap length (text_quoted x.text.now x.slot q), three_length (text_of x.slot.kind) (slice_of x.text.now x.slot) (text_of x.slot.kind))
+
+pub put-inside-requires : goal.put-inside-requires
+put-inside-requires c =
+    let x = c.args in
+    let q : is_quoted x.slot.kind ≡ true = sym c.is_quoted.ensures ∙ c.if-is_quoted.true in
+    omega (arith, ap length c.fixed_text-mark.ensures, ap length c.slice_of.ensures, ap length (text_quoted x.text.now x.slot q), three_length (text_of x.slot.kind) (slice_of x.text.now x.slot) (text_of x.slot.kind))
 
 pub put-requires : goal.put-requires
 put-requires c =
     let x = c.args in
-    let charset = c.in-76.is in
-    omega (arith, ap length c.slice_of.ensures, ap length (underline charset), ap length (text_charset x.text.now x.slot charset), length-append (text_of x.slot.kind) (slice_of x.text.now x.slot))
+    let q : is_quoted x.slot.kind ≡ true = sym c.is_quoted.ensures ∙ c.if-is_quoted.true in
+    omega (arith, ap length c.fixed_text-mark.ensures, ap length c.slice_of.ensures, ap length (text_quoted x.text.now x.slot q), three_length (text_of x.slot.kind) (slice_of x.text.now x.slot) (text_of x.slot.kind))
 
-pub returns-in-76 : goal.returns-in-76
-returns-in-76 c =
+pub returns-then-is_quoted : goal.returns-then-is_quoted
+returns-then-is_quoted c =
     let x = c.args in
-    let charset = c.in-76.is in
-    put_as (text_charset x.text.now x.slot charset ∙ ap (λ l. text_of x.slot.kind ++ l) (sym c.slice_of.ensures))
-    (put_then (omega arith) (put_as (underline charset) c.put_byte-marked.ensures) c.put.ensures)
+    let q : is_quoted x.slot.kind ≡ true = sym c.is_quoted.ensures ∙ c.if-is_quoted.true in
+    let mark = sym c.fixed_text-mark.ensures in
+    put_as (text_quoted x.text.now x.slot q)
+    (put_then (omega arith) (put_then (omega arith) (put_as mark c.put-opened.ensures) (put_as (sym c.slice_of.ensures) c.put-inside.ensures)) (put_as mark c.put.ensures))
+
+-- the parts of another slice
+pub put-marked-requires : goal.put-marked-requires
+put-marked-requires c =
+    let x = c.args in
+    let law = text_marked x.text.now x.slot (sym c.is_quoted.ensures ∙ c.if-is_quoted.false) (sym c.carries_offsets.ensures ∙ c.if-carries_offsets.true) in
+    omega (arith, ap length c.fixed_text-mark.ensures, ap length law, length-append (text_of x.slot.kind) (slice_of x.text.now x.slot))
+
+pub put-requires-then-carries_offsets : goal.put-requires-then-carries_offsets
+put-requires-then-carries_offsets c =
+    let x = c.args in
+    let law = text_marked x.text.now x.slot (sym c.is_quoted.ensures ∙ c.if-is_quoted.false) (sym c.carries_offsets.ensures ∙ c.if-carries_offsets.true) in
+    omega (arith, ap length c.fixed_text-mark.ensures, ap length c.slice_of-then-carries_offsets.ensures, ap length law, length-append (text_of x.slot.kind) (slice_of x.text.now x.slot))
+
+pub returns-then-carries_offsets : goal.returns-then-carries_offsets
+returns-then-carries_offsets c =
+    let x = c.args in
+    put_as (text_marked x.text.now x.slot (sym c.is_quoted.ensures ∙ c.if-is_quoted.false) (sym c.carries_offsets.ensures ∙ c.if-carries_offsets.true))
+    (put_then (omega arith) (put_as (sym c.fixed_text-mark.ensures) c.put-marked.ensures) (put_as (sym c.slice_of-then-carries_offsets.ensures) c.put-then-carries_offsets.ensures))
+
+pub put_char-requires : goal.put_char-requires
+put_char-requires c =
+    let x = c.args in
+    let law = text_unknown x.text.now x.slot (sym c.is_quoted.ensures ∙ c.if-is_quoted.false) (sym c.carries_offsets.ensures ∙ c.if-carries_offsets.false) c.if-slot-eq-UNKNOWN.true in
+    (formed_scalar x.slot c.requires.0 c.if-slot-eq-UNKNOWN.true, omega (arith, ap length law))
+
+pub returns-then-slot-eq-UNKNOWN : goal.returns-then-slot-eq-UNKNOWN
+returns-then-slot-eq-UNKNOWN c =
+    let x = c.args in
+    put_as (text_unknown x.text.now x.slot (sym c.is_quoted.ensures ∙ c.if-is_quoted.false) (sym c.carries_offsets.ensures ∙ c.if-carries_offsets.false) c.if-slot-eq-UNKNOWN.true) c.put_char.ensures
+
+pub put-requires-2 : goal.put-requires-2
+put-requires-2 c =
+    let x = c.args in
+    let law = text_fixed x.text.now x.slot (sym c.is_quoted.ensures ∙ c.if-is_quoted.false) (sym c.carries_offsets.ensures ∙ c.if-carries_offsets.false) c.if-slot-eq-UNKNOWN.false in
+    omega (arith, ap length law, ap length c.fixed_text-mark.ensures)
+
+pub returns : goal.returns
+returns c =
+    let x = c.args in
+    put_as (text_fixed x.text.now x.slot (sym c.is_quoted.ensures ∙ c.if-is_quoted.false) (sym c.carries_offsets.ensures ∙ c.if-carries_offsets.false) c.if-slot-eq-UNKNOWN.false ∙ sym c.fixed_text-mark.ensures) c.put-2.ensures
