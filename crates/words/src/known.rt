@@ -19,6 +19,7 @@ fn letter(text: &[u8], m: usize) -> u8
 }
 
 // The length of a text and its first two letters.
+// Stays: tried and slower, `KNOWN.iter().find(..)`: 43 ns a word for 25; a `match` of the text itself: as fast, and the proof left 101 branches open.
 fn key_of(text: &[u8]) -> u32
     requires { length text.now ≤ 9 }
     ensures { result ≡ key_of (map lower text.now) }
