@@ -7,6 +7,7 @@ ghost use Rattle.chars.specs.Steps.{scalar_of, size_of, following, fits_three, f
 use crate::offset::Offset;
 
 // What stands at an offset: a character, as its scalar value and the offset after it; a byte at which none starts; or nothing.
+// Stays: three ways, no plainer as an Option or a Result: callers of step_at tell a bad byte from the end.
 #[derive(Clone, Copy)]
 pub enum Step {
     Char(u32, Offset),
@@ -39,16 +40,12 @@ pub fn is_following(b: u8) -> bool
 pub fn width_of(c: u32) -> usize
     ensures { result ≡ width c }
 {
-    if c < 0x80 {
-        return 1;
+    match c {
+        0..=0x7F => 1,
+        0x80..=0x7FF => 2,
+        0x800..=0xFFFF => 3,
+        _ => 4,
     }
-    if c < 0x800 {
-        return 2;
-    }
-    if c < 0x10000 {
-        return 3;
-    }
-    4
 }
 
 // The first `count` bytes, where they follow, each joined to the lead byte's payload by a shift and a mask; none where they make no
@@ -91,10 +88,9 @@ pub fn step_at(text: &[u8], offset: Offset) -> Step
     ensures { result ≡ step_at text.now offset }
 {
     let at = offset.0;
-    if text.len() <= at {
+    let Some(&a) = text.get(at) else {
         return Step::End;
-    }
-    let a = text[at];
+    };
     if a < 0x80 {
         return Step::Char(a as u32, Offset(at + 1));
     }
@@ -127,6 +123,7 @@ fn fits_three(a: u8, b: u8) -> bool
 }
 
 // The same for four bytes: nothing overlong, and nothing above U+10FFFF.
+// Stays: no plainer as one function with fits_three: four bytes alone have the bound 0xF5.
 #[tactic(auto, using(crate::proofs::Blocks::four_fits))]
 fn fits_four(a: u8, b: u8) -> bool
     ensures { result ≡ fits_four a b }
@@ -215,6 +212,7 @@ pub fn validate(text: &[u8]) -> Result<(), BadAt>
         return Ok(());
     }
     let mut at = settle_blocks(text);
+    // Stays: no plainer as a `for`: each turn passes a whole character, and no iterator counts offsets by widths.
     while at < text.len() {
         let Some(width) = width_at(text, at) else {
             return Err(BadAt(Offset(at)));

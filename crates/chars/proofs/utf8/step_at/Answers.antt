@@ -7,20 +7,26 @@ use Rattle.chars.specs.Steps.{offset}
 use Rattle.chars.proofs.Stepping.{stepped, step_end, step-ascii, step_bad, step_char}
 use Rattle.chars.proofs.utf8.step_at.Goals as goal
 
-pub returns-then-text-at : goal.returns-then-text-at
-returns-then-text-at c = step_end _ _ c.if-text-at.true
+pub returns-in_default : goal.returns-in_default
+returns-in_default c = step_end _ _ c.in_default.ensures.lookup.3
 
 pub returns-then-a-lt128 : goal.returns-then-a-lt128
-returns-then-a-lt128 c = step-ascii _ _ c.if-text-at.false c.if-a-lt128.true
+returns-then-a-lt128 c =
+    let a = c.in-Some.ensures.lookup.3 in
+    ap (λ (v : ℕ). Char v (offset (c.args.offset.0 + 1))) (a.1 0) ∙ step-ascii _ _ a.0 (omega (arith, a.1 0))
 
-pub overflow_add-result-in-Some : goal.overflow_add-result-in-Some
-overflow_add-result-in-Some c =
-    omega (arith, (stepped _ _ _ _ (sym (step_char _ _ c.if-text-at.false _ (sym c.in-Some.is ∙ c.scalar_at.ensures)))).inside)
+pub overflow_add-result-in-Some-scalar_at : goal.overflow_add-result-in-Some-scalar_at
+overflow_add-result-in-Some-scalar_at c =
+    let a = c.in-Some.ensures.lookup.3 in
+    omega (arith, (stepped _ _ _ _ (sym (step_char _ _ a.0 _ (sym c.in-Some-scalar_at.is ∙ c.scalar_at.ensures)))).inside)
 
-pub returns-in-Some : goal.returns-in-Some
-returns-in-Some c =
-    ap (λ (w : ℕ). Char c.in-Some.x (offset (c.args.offset.0 + w))) c.width_of.ensures
-    ∙ step_char _ _ c.if-text-at.false _ (sym c.in-Some.is ∙ c.scalar_at.ensures)
+pub returns-in-Some-scalar_at : goal.returns-in-Some-scalar_at
+returns-in-Some-scalar_at c =
+    let a = c.in-Some.ensures.lookup.3 in
+    ap (λ (w : ℕ). Char c.in-Some-scalar_at.x (offset (c.args.offset.0 + w))) c.width_of.ensures
+    ∙ step_char _ _ a.0 _ (sym c.in-Some-scalar_at.is ∙ c.scalar_at.ensures)
 
 pub returns-in-None : goal.returns-in-None
-returns-in-None c = step_bad _ _ c.if-text-at.false (sym c.in-None.is ∙ c.scalar_at.ensures)
+returns-in-None c =
+    let a = c.in-Some.ensures.lookup.3 in
+    step_bad _ _ a.0 (sym c.in-None.is ∙ c.scalar_at.ensures)
