@@ -13,6 +13,7 @@ use native.Mathlib.Omega.{arith}
 use lib.Dec.{eqb, leb, ltb}
 use lib.ListN.{length, get_or, drop}
 use borrow.Author.Tests.{le-leb, lt-leb, lt-ltb, le-ltb, leb-true, ltb-true, ltb-false, eqb-true, eqb-false, ne_eqb}
+use Rattle.std.specs.Prelude.{Option as Maybe, Some, None}
 use Rattle.chars.specs.Utf8.{front, follows, first_bad}
 use Rattle.chars.specs.Steps.{size_of, fits_three, fits_four, barred_three, barred_four, in_place, Settled}
 use Rattle.chars.proofs.Bytes.{and_l, and_r, follows_range}
@@ -107,8 +108,8 @@ pub settled_start : (t : List ℕ) → Settled t 0
 unfolding first_bad
 settled_start t = record { inside = zero-le; first = refl }
 
-pub settled_on : (t : List ℕ) (s w : ℕ) → Settled t s → w ≡ size_of (front (drop s t)) → (w ≡ 0 → ⊥) → Settled t (s + w)
-settled_on t s w d e n = let on = sized_on t s w e n in record { inside = on.0; first = sym on.1 ∙ d.first }
+pub settled_on : (t : List ℕ) (s w : ℕ) → Settled t s → Some w ≡ size_of (front (drop s t)) → Settled t (s + w)
+settled_on t s w d e = let on = sized_on t s w e in record { inside = on.1; first = sym on.2 ∙ d.first }
 
 -- ---- the bytes passed
 -- i bytes were passed, p3, p2 and p1 the last; all is valid before s, where a character starts of which 1, 2 or 3 bytes were passed
@@ -128,15 +129,15 @@ module _ (t : List ℕ) (i p3 p2 p1 : ℕ) (h : i < length t) (e : in_place p3 p
   q = placed p3 p2 p1 (get_or t i 0) e
 
   -- a character of w bytes ends with this byte
-  ended : (s w : ℕ) → Settled t s → w ≡ size_of (front (drop s t)) → (w ≡ 0 → ⊥) → i + 1 ≡ s + w → get_or t i 0 < 0xC0 → p1 < 0xE0 → p2 < 0xF0
+  ended : (s w : ℕ) → Settled t s → Some w ≡ size_of (front (drop s t)) → i + 1 ≡ s + w → get_or t i 0 < 0xC0 → p1 < 0xE0 → p2 < 0xF0
       → Passed t (i + 1) p2 p1 (get_or t i 0)
-  ended s w d f n place l m k = whole (rw place (settled_on t s w d f n)) l m k
+  ended s w d f place l m k = whole (rw place (settled_on t s w d f)) l m k
 
   pub passed_on : Passed t i p3 p2 p1 → Passed t (i + 1) p2 p1 (get_or t i 0)
   passed_on (whole d l m n) = go (ltb (get_or t i 0) 0x80) refl
     where
       go : (p : Bool) → ltb (get_or t i 0) 0x80 ≡ p → Passed t (i + 1) p2 p1 (get_or t i 0)
-      go true f = let k = ltb-true _ _ f in ended i 1 d (size_one t i h k) (λ z. omega arith) refl (omega arith) (omega arith) (omega arith)
+      go true f = let k = ltb-true _ _ f in ended i 1 d (size_one t i h k) refl (omega arith) (omega arith) (omega arith)
       go false f = one i d refl refl (leads _ (ltb-false _ _ f) (due_none q l m n)) (omega arith)
   passed_on (one s d place b1 l m) = go (ltb p1 0xE0) refl
     where
@@ -147,7 +148,7 @@ module _ (t : List ℕ) (i p3 p2 p1 : ℕ) (h : i < length t) (e : in_place p3 p
       go true f =
           let k = ltb-true _ _ f in
           let c2 : 0xC2 ≤ p1 = leb-true 0xC2 p1 (sym q.lead ∙ le-leb 0xC0 p1 l) in
-          ended s 2 d (size_two t s (omega arith) (omega arith) (omega arith) (rw (← place) fb) (omega arith)) (λ z. omega arith) (omega arith)
+          ended s 2 d (size_two t s (omega arith) (omega arith) (omega arith) (rw (← place) fb) (omega arith)) (omega arith)
           (omega (arith, follows_range _ fb)) k m
       go false f = two s d (omega arith) b1 (rw place) (ltb-false _ _ f) fb q.three q.four
   passed_on (two s d place b2 b1 l f1 f3 f4) = go (ltb p2 0xF0) refl
@@ -163,9 +164,9 @@ module _ (t : List ℕ) (i p3 p2 p1 : ℕ) (h : i < length t) (e : in_place p3 p
           let k = ltb-true _ _ f in
           let fits : fits_three (get_or t s 0) (get_or t (s + 1) 0) ≡ true = cc in
           ended s 3 d
-          (ap (λ (p : Bool). cond {A = ℕ} p 3 0) (sym fits)
+          (ap (λ (p : Bool). cond {A = Maybe ℕ} p (Some 3) None) (sym fits)
           ∙ size_three t s (omega arith) (omega arith) (omega arith) (cc) (omega arith) (omega arith) (rw (← place) fb) (omega arith))
-          (λ z. omega arith) (omega arith) (omega (arith, follows_range _ fb)) (omega (arith, low)) k
+          (omega arith) (omega (arith, follows_range _ fb)) (omega (arith, low)) k
       go false f = three s d (omega arith) b2 b1 (rw place) (ltb-false _ _ f) f1 fb f4
   passed_on (three s d place b3 b2 b1 l f2 f1 f4) =
       let low1 = follows_range _ f1 in
@@ -173,9 +174,9 @@ module _ (t : List ℕ) (i p3 p2 p1 : ℕ) (h : i < length t) (e : in_place p3 p
       let fb : follows (get_or t i 0) ≡ true = due_three q (omega arith) (omega arith) l in
       let fits : fits_four (get_or t s 0) (get_or t (s + 1) 0) ≡ true = cc in
       ended s 4 d
-      (ap (λ (p : Bool). cond {A = ℕ} p 4 0) (sym fits)
+      (ap (λ (p : Bool). cond {A = Maybe ℕ} p (Some 4) None) (sym fits)
       ∙ size_four t s (omega arith) (omega arith) (omega arith) (cc) (omega arith) (omega arith) (cc) (omega arith) (omega arith) (rw (← place) fb))
-      (λ z. omega arith) (omega arith) (omega (arith, follows_range _ fb)) (omega arith) (omega arith)
+      (omega arith) (omega (arith, follows_range _ fb)) (omega arith) (omega arith)
 
 -- ---- the character that is cut
 module _ {t : List ℕ} {i p3 p2 p1 : ℕ} (r : Passed t i p3 p2 p1) where

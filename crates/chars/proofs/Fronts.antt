@@ -1,6 +1,6 @@
 -- What stands at an offset, by its lead byte, and what the code's masks make of that byte.
 -- front_one .. front_none      the definition's cases, for the byte at an offset
--- scalar_none                  a byte at which no character starts gives 0
+-- scalar_none                  a byte at which no character starts gives none
 -- scalar_two .. scalar_four    the masked lead byte gives the same value
 -- Assumes nothing.
 use mathlib.Core.Path.{◌≡◌}
@@ -10,6 +10,7 @@ use native.Mathlib.Omega.{arith}
 use lib.Bits.{bit_and, and_mask}
 use lib.ListN.{length, get_or, drop}
 use borrow.Author.Tests.{lt-ltb, le-ltb}
+use Rattle.std.specs.Prelude.{None}
 use Rattle.chars.specs.Utf8.{char, bad, joined, ranged, front}
 use Rattle.chars.specs.Steps.{scalar_of}
 use Rattle.chars.proofs.Joining.{drop_at}
@@ -51,7 +52,7 @@ module _ (t : List ℕ) (at : ℕ) (h : at < length t) where
       let g : 0xF0 ≤ get_or t at 0 = omega arith in
       rw (drop_at t at h) (simp (le-ltb _ _ k, le-ltb _ _ j, le-ltb _ _ i, le-ltb _ _ g, le-ltb _ _ l))
 
-  pub scalar_none : front (drop at t) ≡ bad → 0 ≡ scalar_of (front (drop at t))
+  pub scalar_none : front (drop at t) ≡ bad → None ≡ scalar_of (front (drop at t))
   unfolding scalar_of
   scalar_none e = rw e
 

@@ -1,23 +1,25 @@
 -- Following bytes, joined one by one: what the loop of `sequence` keeps, and the shifts and masks that join.
 -- join_bits                                  the shift, the mask and the or of one turn
 -- drop_at                                    a text from an offset on is its byte there and the rest
--- joined_next, _short, _stray, _more         one following byte more, or none
+-- joined_next, _stop, _few                   one following byte more, or none
 -- small_start, Joining, joining_more .. _done  the invariant: how it starts, goes on and ends
 -- answer_none .. answer_no_scalar            the answer from the joined bits
 -- Assumes nothing.
-use mathlib.Core.Path.{◌≡◌, sym, ap, ◌∙◌}
-use mathlib.Core.Bool.{true, false}
+use mathlib.Core.Path.{◌≡◌, refl, sym, ap, ◌∙◌}
+use mathlib.Core.Bool.{Bool, true, false, cond}
 use mathlib.Core.Option.{Option, none, some}
-use mathlib.Core.List.{List, ◌∷◌}
+use mathlib.Core.List.{List, [], ◌∷◌}
 use Prim.Native.Nat.{ℕ, zero, suc, ◌+◌, ◌-◌, ◌*◌, ◌%◌, ◌^◌, ◌≤◌, ◌<◌}
 use native.Mathlib.Numerals.{add-one}
+use native.Mathlib.Decide.{dec_lt}
 use native.Mathlib.Omega.{arith}
 use lib.Bits.{bit_and, bit_or, and_mask, or_shifted}
 use lib.ListN.{length, get_or, drop, drop_of_length-le}
 use lib.Seq.{drop-cons}
 use borrow.Author.Tests.{le-leb, lt-leb}
+use Rattle.std.specs.Prelude.{Option as Maybe, Some, None}
 use Rattle.chars.specs.Utf8.{follows, is_scalar, joined, ranged}
-use Rattle.chars.specs.Steps.{scalar_of}
+use Rattle.chars.specs.Steps.{scalar_of, following}
 use Rattle.chars.proofs.Bytes.{follows_range}
 
 -- ---- the bits
@@ -36,19 +38,62 @@ pub joined_next : (t : List ℕ) (at n x : ℕ) → at < length t → follows (g
 unfolding joined
 joined_next t at n x h e = rw (drop_at t at h, e)
 
+-- ---- the byte at an offset, where it follows
+pub following_end : (t : List ℕ) (at : ℕ) → length t ≤ at → following (drop at t) ≡ None
+unfolding following
+following_end t at h = rw (drop_of_length-le t h)
+
+pub following_at : (t : List ℕ) (at : ℕ) → at < length t → following (drop at t) ≡ cond (follows (get_or t at 0)) (Some (get_or t at 0)) None
+unfolding following
+following_at t at h = rw (drop_at t at h)
+
+-- what it tells that one follows
+pub record Followed (t : List ℕ) (at b : ℕ) : Type 0 where
+  pub inside : at < length t
+  pub is : b ≡ get_or t at 0
+  pub follows_it : follows (get_or t at 0) ≡ true
+
+pub followed : (t : List ℕ) (at b : ℕ) → Some b ≡ following (drop at t) → Followed t at b
+followed t at b e = go (dec_lt at (length t))
+  where
+    is_there : (p : Bool) → at < length t → follows (get_or t at 0) ≡ p → Some b ≡ cond p (Some (get_or t at 0)) None → Followed t at b
+    is_there true h f q = record { inside = h; is = cc; follows_it = f }
+    is_there false h f q = absurd (cc)
+
+    go : Dec (at < length t) → Followed t at b
+    go (yes h) = is_there (follows (get_or t at 0)) h refl (e ∙ following_at t at h)
+    go (no h) = let z : ◌≡◌ {A = Maybe ℕ} (Some b) None = e ∙ following_end t at (omega arith) in absurd (cc)
+
+-- where no byte follows, none is joined
+pub joined_stop : (n x : ℕ) (l : List ℕ) → following l ≡ None → joined (suc n) x l ≡ none
+unfolding joined following
+joined_stop n x [] e = refl
+joined_stop n x (b ∷ l) e = go (follows b) e
+  where
+    go : (p : Bool) → cond {A = Maybe ℕ} p (Some b) None ≡ None → cond p (joined n (x * 64 + (b - 0x80)) l) none ≡ none
+    go true q = absurd (cc)
+    go false q = refl
+
+-- nor where there are too few
+pub joined_few : (n x : ℕ) (l : List ℕ) → length l < n → joined n x l ≡ none
+unfolding joined
+joined_few zero x l h = absurd (omega arith)
+joined_few (suc n) x [] h = refl
+joined_few (suc n) x (b ∷ l) h = go (follows b) (joined_few n (x * 64 + (b - 0x80)) l (omega arith))
+  where
+    go : (p : Bool) → joined n (x * 64 + (b - 0x80)) l ≡ none → cond p (joined n (x * 64 + (b - 0x80)) l) none ≡ none
+    go true q = q
+    go false q = refl
+
 module _ (t : List ℕ) (at n x : ℕ) (some_left : 0 < n) where
   is_suc : n ≡ suc (n - 1)
   is_suc = omega arith
 
-  pub joined_short : length t ≤ at → joined n x (drop at t) ≡ none
-  unfolding joined
-  joined_short h = rw (is_suc, drop_of_length-le t h)
-
-  pub joined_stray : at < length t → follows (get_or t at 0) ≡ false → joined n x (drop at t) ≡ none
+  joined_stray : at < length t → follows (get_or t at 0) ≡ false → joined n x (drop at t) ≡ none
   unfolding joined
   joined_stray h e = rw (is_suc, drop_at t at h, e)
 
-  pub joined_more : at < length t → follows (get_or t at 0) ≡ true
+  joined_more : at < length t → follows (get_or t at 0) ≡ true
       → joined n x (drop at t) ≡ joined (n - 1) (x * 64 + (get_or t at 0 - 0x80)) (drop (at + 1) t)
   joined_more h e = ap (λ (m : ℕ). joined m x (drop at t)) is_suc ∙ joined_next t at (n - 1) x h e
 
@@ -75,55 +120,51 @@ small_more (suc (suc zero)) x b p h l k = omega arith
 small_more (suc (suc (suc zero))) x b p h l k = omega arith
 small_more (suc (suc (suc (suc n)))) x b p h l k = absurd (omega arith)
 
-pub record Joining (t : List ℕ) (from count lead x at n : ℕ) : Type 0 where
-  pub few : n ≤ 3
-  pub small : x < 2 ^ (23 - 6 * n)
-  pub place : at + n ≡ from + count
-  pub same : joined n x (drop at t) ≡ joined count lead (drop from t)
+-- i bytes are joined
+pub record Joining (t : List ℕ) (count lead x i : ℕ) : Type 0 where
+  pub few : count ≤ 3
+  pub small : x < 2 ^ (23 - 6 * (count - i))
+  pub same : joined (count - i) x (drop i t) ≡ joined count lead t
 
-module _ {t : List ℕ} {from count lead x at n : ℕ} (j : Joining t from count lead x at n) where
-  module _ (some_left : 0 < n) (inside : at < length t) where
+module _ {t : List ℕ} {count lead x i : ℕ} (j : Joining t count lead x i) where
+  module _ (some_left : i < count) (inside : i < length t) where
+    left : 0 < count - i
+    left = omega arith
+
     -- one turn: the bits that the code makes keep the invariant
-    pub joining_more : follows (get_or t at 0) ≡ true
-        → Joining t from count lead (bit_or (x * 64 % 2 ^ 32) (bit_and (get_or t at 0) 0x3F)) (at + 1) (n - 1)
+    pub joining_more : follows (get_or t i 0) ≡ true → Joining t count lead (bit_or (x * 64 % 2 ^ 32) (bit_and (get_or t i 0) 0x3F)) (i + 1)
     joining_more e =
-        rw (join_bits x (get_or t at 0) (omega (arith, small_less n x j.few j.small)) e)
+        let less : count - (i + 1) ≡ count - i - 1 = omega arith in
+        rw (join_bits x (get_or t i 0) (omega (arith, small_less (count - i) x (omega (arith, j.few)) j.small)) e)
         (record {
-          few = omega (arith, j.few);
-          small = small_more n x (get_or t at 0 - 0x80) some_left j.few j.small (omega (arith, follows_range (get_or t at 0) e));
-          place = omega (arith, j.place);
-          same = sym (joined_more t at n x some_left inside e) ∙ j.same;
+          few = j.few;
+          small = rw less (small_more (count - i) x (get_or t i 0 - 0x80) left (omega (arith, j.few)) j.small (omega (arith, follows_range (get_or t i 0) e)));
+          same = rw less (sym (joined_more t i (count - i) x left inside e) ∙ j.same);
         })
 
-    pub joining_stray : follows (get_or t at 0) ≡ false → joined count lead (drop from t) ≡ none
-    joining_stray e = sym j.same ∙ joined_stray t at n x some_left inside e
+    pub joining_stray : follows (get_or t i 0) ≡ false → joined count lead t ≡ none
+    joining_stray e = sym j.same ∙ joined_stray t i (count - i) x left inside e
 
-  pub joining_short : 0 < n → length t ≤ at → joined count lead (drop from t) ≡ none
-  joining_short p h = sym j.same ∙ joined_short t at n x p h
-
-  pub joining_done : n ≤ 0 → joined count lead (drop from t) ≡ some x
+  pub joining_done : count ≤ i → joined count lead t ≡ some x
   unfolding joined
-  joining_done h = let z : n ≡ 0 = omega arith in sym j.same ∙ ap (λ (m : ℕ). joined m x (drop at t)) z
-
-  pub joining_place : n ≤ 0 → at ≡ from + count
-  joining_place h = omega (arith, j.place)
+  joining_done h = let z : count - i ≡ 0 = omega arith in sym j.same ∙ ap (λ (m : ℕ). joined m x (drop i t)) z
 
 -- ---- the answer from the joined bits
 module _ (count least : ℕ) (o : Option ℕ) where
-  pub answer_none : o ≡ none → 0 ≡ scalar_of (ranged count least o)
+  pub answer_none : o ≡ none → None ≡ scalar_of (ranged count least o)
   unfolding scalar_of ranged
   answer_none e = rw e
 
   module _ (x : ℕ) (e : o ≡ some x) where
-    pub answer_overlong : x < least → 0 ≡ scalar_of (ranged count least o)
+    pub answer_overlong : x < least → None ≡ scalar_of (ranged count least o)
     unfolding scalar_of ranged
     answer_overlong h = rw e (simp (lt-leb least x h))
 
     module _ (h : least ≤ x) where
-      pub answer_char : is_scalar x ≡ true → x ≡ scalar_of (ranged count least o)
+      pub answer_char : is_scalar x ≡ true → Some x ≡ scalar_of (ranged count least o)
       unfolding scalar_of ranged
       answer_char s = rw e (simp (le-leb least x h, s))
 
-      pub answer_no_scalar : is_scalar x ≡ false → 0 ≡ scalar_of (ranged count least o)
+      pub answer_no_scalar : is_scalar x ≡ false → None ≡ scalar_of (ranged count least o)
       unfolding scalar_of ranged
       answer_no_scalar s = rw e (simp (le-leb least x h, s))

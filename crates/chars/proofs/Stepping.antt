@@ -20,6 +20,7 @@ use lib.Dec.{leb, ltb}
 use lib.ListN.{length, get_or, drop, drop_of_length-le, length-drop}
 use lib.Seq.{drop-drop}
 use borrow.Author.Tests.{lt-ltb}
+use Rattle.std.specs.Prelude.{Some, None}
 use Rattle.chars.specs.declared.offset.Offset.{Offset}
 use Rattle.chars.specs.declared.utf8.Step.TheVariants.{Char, Bad, End}
 use Rattle.chars.specs.Utf8.{Front, char, bad, end, follows, is_scalar, joined, ranged, front, on_front, chars, chars_from, bad_from, first_bad, width, encode}
@@ -39,29 +40,23 @@ module _ (t : List ℕ) (at : ℕ) where
     unfolding step_at
     step-ascii l = rw (front_one t at h l) (simp add-zero)
 
-    -- above ASCII no scalar value is 0, so that 0 says that none starts
-    module _ (l : 0x80 ≤ get_or t at 0) where
-      lead_zero : (n : ℕ) → front (drop at t) ≡ char 0 n → ⊥
-      unfolding encode
-      lead_zero n p = let z : get_or t at 0 ≡ 0 = cc (written (drop at t) 0 n p, drop_at t at h) in omega arith
+    pub step_bad : None ≡ scalar_of (front (drop at t)) → Bad ≡ step_at t (offset at)
+    unfolding step_at scalar_of
+    step_bad = go (front (drop at t)) refl
+      where
+        go : (f : Front) → front (drop at t) ≡ f → None ≡ scalar_of f → Bad ≡ placed (at + 1) f
+        go (char s n) p q = absurd (cc)
+        go bad p q = refl
+        go end p q = absurd (front_some _ _ (ap front (sym (drop_at t at h)) ∙ p))
 
-      pub step_bad : 0 ≡ scalar_of (front (drop at t)) → Bad ≡ step_at t (offset at)
-      unfolding step_at scalar_of
-      step_bad = go (front (drop at t)) refl
-        where
-          go : (f : Front) → front (drop at t) ≡ f → 0 ≡ scalar_of f → Bad ≡ placed (at + 1) f
-          go (char s n) p q = absurd (lead_zero n (p ∙ ap (λ (v : ℕ). char v n) (sym q)))
-          go bad p q = refl
-          go end p q = absurd (front_some _ _ (ap front (sym (drop_at t at h)) ∙ p))
-
-      pub step_char : (x : ℕ) → x ≡ scalar_of (front (drop at t)) → (x ≡ 0 → ⊥) → Char x (offset (at + width x)) ≡ step_at t (offset at)
-      unfolding step_at scalar_of
-      step_char x = go (front (drop at t)) refl
-        where
-          go : (f : Front) → front (drop at t) ≡ f → x ≡ scalar_of f → (x ≡ 0 → ⊥) → Char x (offset (at + width x)) ≡ placed (at + 1) f
-          go (char s n) p q r = let e : at + width s ≡ at + 1 + n = omega (arith, (front_read (drop at t) s n p).wide) in rw (q, e)
-          go bad p q r = absurd (r q)
-          go end p q r = absurd (r q)
+    pub step_char : (x : ℕ) → Some x ≡ scalar_of (front (drop at t)) → Char x (offset (at + width x)) ≡ step_at t (offset at)
+    unfolding step_at scalar_of
+    step_char x = go (front (drop at t)) refl
+      where
+        go : (f : Front) → front (drop at t) ≡ f → Some x ≡ scalar_of f → Char x (offset (at + width x)) ≡ placed (at + 1) f
+        go (char s n) p q = let z : x ≡ s = cc in let e : at + width s ≡ at + 1 + n = omega (arith, (front_read (drop at t) s n p).wide) in rw (z, e)
+        go bad p q = absurd (cc)
+        go end p q = absurd (cc)
 
 -- ---- a character lies within the text
 joined_fits : (n x s : ℕ) (l : List ℕ) → joined n x l ≡ some s → n ≤ length l
@@ -202,26 +197,27 @@ stepped_none t at = unfold step_at in go (front (drop at t)) refl
     go end p q = no_chars (drop at t) end p refl
 
 -- ---- what a size tells
-pub sized_on : (t : List ℕ) (at w : ℕ) → w ≡ size_of (front (drop at t)) → (w ≡ 0 → ⊥)
-    → (at + w ≤ length t) × (bad_from 0 at (drop at t) ≡ bad_from 0 (at + w) (drop (at + w) t))
+pub sized_on : (t : List ℕ) (at w : ℕ) → Some w ≡ size_of (front (drop at t))
+    → (0 < w) × (at + w ≤ length t) × (bad_from 0 at (drop at t) ≡ bad_from 0 (at + w) (drop (at + w) t))
 unfolding size_of
 sized_on t at w = go (front (drop at t)) refl
   where
-    go : (f : Front) → front (drop at t) ≡ f → w ≡ size_of f → (w ≡ 0 → ⊥)
-        → (at + w ≤ length t) × (bad_from 0 at (drop at t) ≡ bad_from 0 (at + w) (drop (at + w) t))
-    go (char s n) p q r =
+    go : (f : Front) → front (drop at t) ≡ f → Some w ≡ size_of f
+        → (0 < w) × (at + w ≤ length t) × (bad_from 0 at (drop at t) ≡ bad_from 0 (at + w) (drop (at + w) t))
+    go (char s n) p q =
+        let z : w ≡ suc n = cc in
         let e : at + 1 + n ≡ at + w = omega arith in
         let step = stepped t at s (at + 1 + n) (unfold step_at in ap (placed (at + 1)) p) in
-        rw (← e) (step.inside, step.checks)
-    go bad p q r = absurd (r q)
-    go end p q r = absurd (r q)
+        rw (← e) (omega arith, step.inside, step.checks)
+    go bad p q = absurd (cc)
+    go end p q = absurd (cc)
 
-pub sized_bad : (t : List ℕ) (at : ℕ) → at < length t → 0 ≡ size_of (front (drop at t)) → bad_from 0 at (drop at t) ≡ some at
+pub sized_bad : (t : List ℕ) (at : ℕ) → at < length t → None ≡ size_of (front (drop at t)) → bad_from 0 at (drop at t) ≡ some at
 unfolding size_of
 sized_bad t at h = go (front (drop at t)) refl
   where
-    go : (f : Front) → front (drop at t) ≡ f → 0 ≡ size_of f → bad_from 0 at (drop at t) ≡ some at
-    go (char s n) p q = absurd (omega arith)
+    go : (f : Front) → front (drop at t) ≡ f → None ≡ size_of f → bad_from 0 at (drop at t) ≡ some at
+    go (char s n) p q = absurd (cc)
     go bad p q = bad_here at (drop at t) p
     go end p q = absurd (front_some _ _ (ap front (sym (drop_at t at h)) ∙ p))
 

@@ -1,6 +1,6 @@
 -- How the code answers: a step at an offset, and the verdict on a text, by the definitions of Utf8.antt.
 -- Assumes nothing.
-use Rattle.std.specs.Prelude.{◌≡◌, ℕ, suc, ◌+◌, ◌≤◌, Bool, true, cond, ◌&&◌, ◌||◌, List, eqb, leb, ltb, length, drop, Result, Ok, Err}
+use Rattle.std.specs.Prelude.{◌≡◌, ℕ, suc, ◌+◌, ◌≤◌, Bool, true, cond, ◌&&◌, ◌||◌, List, [], ◌∷◌, eqb, leb, ltb, length, drop, Result, Ok, Err, Option as Maybe, Some, None}
 use Rattle.std.specs.Bool.{beq}
 use Rattle.std.proofs.Math.Option.{Option, none, some}
 use Rattle.chars.specs.declared.offset.Offset.{Offset}
@@ -29,17 +29,22 @@ verdict_of none = Ok tt
 verdict_of (some at) = Err (record { 0 = offset at })
 
 -- ---- what the private functions answer, on the way there
--- the scalar value at the front; 0 where no character starts
-unfoldable pub scalar_of : Front → ℕ
-scalar_of (char s n) = s
-scalar_of bad = 0
-scalar_of end = 0
+-- the scalar value at the front, where a character starts
+unfoldable pub scalar_of : Front → Maybe ℕ
+scalar_of (char s n) = Some s
+scalar_of bad = None
+scalar_of end = None
 
--- how many bytes the character at the front takes; 0 where none starts
-unfoldable pub size_of : Front → ℕ
-size_of (char s n) = suc n
-size_of bad = 0
-size_of end = 0
+-- how many bytes the character at the front takes, where one starts
+unfoldable pub size_of : Front → Maybe ℕ
+size_of (char s n) = Some (suc n)
+size_of bad = None
+size_of end = None
+
+-- the byte at the front, where it follows
+unfoldable pub following : List ℕ → Maybe ℕ
+following [] = None
+following (b ∷ rest) = cond (follows b) (Some b) None
 
 -- three bytes that start with a and b are neither overlong nor a surrogate
 unfoldable pub fits_three : ℕ → ℕ → Bool

@@ -2,11 +2,12 @@
 // Document 01, "Characters". The Rust has `char_indices` here; this steps through the lent bytes.
 ghost use Rattle.std.specs.Prelude.{◌≡◌, ◌≤◌, ◌<◌, length, get_or, drop, fold, bit_or};
 ghost use Rattle.chars.specs.Utf8.{front, follows, is_scalar, joined, ranged, width, first_bad};
-ghost use Rattle.chars.specs.Steps.{scalar_of, size_of, fits_three, fits_four, barred, in_place, Settled, step_at, verdict_of};
+ghost use Rattle.chars.specs.Steps.{scalar_of, size_of, following, fits_three, fits_four, barred, in_place, Settled, step_at, verdict_of};
 
 use crate::offset::Offset;
 
 // What stands at an offset: a character, as its scalar value and the offset after it; a byte at which none starts; or nothing.
+// Stays: three ways, no plainer as an Option or a Result: callers of step_at tell a bad byte from the end.
 #[derive(Clone, Copy)]
 pub enum Step {
     Char(u32, Offset),
@@ -39,68 +40,47 @@ pub fn is_following(b: u8) -> bool
 pub fn width_of(c: u32) -> usize
     ensures { result ≡ width c }
 {
-    if c < 0x80 {
-        return 1;
+    match c {
+        0..=0x7F => 1,
+        0x80..=0x7FF => 2,
+        0x800..=0xFFFF => 3,
+        _ => 4,
     }
-    if c < 0x800 {
-        return 2;
-    }
-    if c < 0x10000 {
-        return 3;
-    }
-    4
 }
 
-// `count` following bytes from the offset `from`, each joined to the lead byte's payload by a shift and a mask; 0 where they
-// make no character.
-fn sequence(text: &[u8], from: usize, count: usize, least: u32, lead: u32) -> u32
+// The first `count` bytes, where they follow, each joined to the lead byte's payload by a shift and a mask; none where they make no
+// character.
+fn sequence(rest: &[u8], count: usize, least: u32, lead: u32) -> Option<u32>
     requires { (count ≤ 3) × (lead < 32) }
-    ensures { result ≡ scalar_of (ranged count least (joined count lead (drop from text.now))) }
+    ensures { result ≡ scalar_of (ranged count least (joined count lead rest.now)) }
 {
     let mut x = lead;
-    let mut at = from;
-    let mut n = count;
-    while 0 < n {
-        if text.len() <= at {
-            return 0;
-        }
-        let b = text[at];
+    for &b in rest.get(..count)? {
         if !is_following(b) {
-            return 0;
+            return None;
         }
         x = (x << 6) | ((b & 0x3F) as u32);
-        at += 1;
-        n -= 1;
     }
-    if x < least {
-        return 0;
+    if least <= x && is_scalar(x) {
+        Some(x)
+    } else {
+        None
     }
-    if is_scalar(x) {
-        return x;
-    }
-    0
 }
 
-// The scalar value at an offset, joined from two to four bytes; 0 where no character starts. A number, and no enum, since it
-// comes back in a register.
-fn scalar_at(text: &[u8], at: usize) -> u32
+// The scalar value at an offset, joined from two to four bytes.
+fn scalar_at(text: &[u8], at: usize) -> Option<u32>
     requires { (at < length text.now) × (0x80 ≤ get_or text.now at 0) }
     ensures { result ≡ scalar_of (front (drop at text.now)) }
 {
     let a = text[at];
-    if a < 0xC0 {
-        return 0;
+    let rest = &text[at + 1..];
+    match a {
+        0xC0..=0xDF => sequence(rest, 1, 0x80, (a & 0x1F) as u32),
+        0xE0..=0xEF => sequence(rest, 2, 0x800, (a & 0x0F) as u32),
+        0xF0..=0xF7 => sequence(rest, 3, 0x10000, (a & 0x07) as u32),
+        _ => None,
     }
-    if a < 0xE0 {
-        return sequence(text, at + 1, 1, 0x80, (a & 0x1F) as u32);
-    }
-    if a < 0xF0 {
-        return sequence(text, at + 1, 2, 0x800, (a & 0x0F) as u32);
-    }
-    if a < 0xF8 {
-        return sequence(text, at + 1, 3, 0x10000, (a & 0x07) as u32);
-    }
-    0
 }
 
 // The character at an offset.
@@ -108,19 +88,16 @@ pub fn step_at(text: &[u8], offset: Offset) -> Step
     ensures { result ≡ step_at text.now offset }
 {
     let at = offset.0;
-    if text.len() <= at {
+    let Some(&a) = text.get(at) else {
         return Step::End;
-    }
-    let a = text[at];
+    };
     if a < 0x80 {
         return Step::Char(a as u32, Offset(at + 1));
     }
-    let x = scalar_at(text, at);
-    if x == 0 {
-        return Step::Bad;
+    match scalar_at(text, at) {
+        Some(x) => Step::Char(x, Offset(at + width_of(x))),
+        None => Step::Bad,
     }
-    let next = at + width_of(x);
-    Step::Char(x, Offset(next))
 }
 
 // All bits that some byte of the text has: below 0x80 where every byte is ASCII.
@@ -146,6 +123,7 @@ fn fits_three(a: u8, b: u8) -> bool
 }
 
 // The same for four bytes: nothing overlong, and nothing above U+10FFFF.
+// Stays: no plainer as one function with fits_three: four bytes alone have the bound 0xF5.
 #[tactic(auto, using(crate::proofs::Blocks::four_fits))]
 fn fits_four(a: u8, b: u8) -> bool
     ensures { result ≡ fits_four a b }
@@ -153,51 +131,37 @@ fn fits_four(a: u8, b: u8) -> bool
     (a != barred::<0x90, 0xF0, 0xF4>(b)) & (a < 0xF5)
 }
 
-// How many bytes the character at an offset takes; 0 where none starts. No value is joined.
-fn width_at(text: &[u8], at: usize) -> usize
+// The byte at an offset, where it follows.
+#[tactic(auto, using(crate::proofs::Joining::following_end, crate::proofs::Joining::following_at))]
+fn following(text: &[u8], at: usize) -> Option<u8>
+    ensures { result ≡ following (drop at text.now) }
+{
+    let b = *text.get(at)?;
+    if is_following(b) { Some(b) } else { None }
+}
+
+// How many bytes the character at an offset takes. No value is joined.
+fn width_at(text: &[u8], at: usize) -> Option<usize>
     requires { at < length text.now }
     ensures { result ≡ size_of (front (drop at text.now)) }
 {
     let a = text[at];
     if a < 0x80 {
-        return 1;
+        return Some(1);
     }
     if a < 0xC2 {
-        return 0;
+        return None;
     }
-    let left = text.len() - at;
-    if left < 2 {
-        return 0;
-    }
-    let b = text[at + 1];
-    if !is_following(b) {
-        return 0;
-    }
+    let b = following(text, at + 1)?;
     if a < 0xE0 {
-        return 2;
+        return Some(2);
     }
-    if left < 3 {
-        return 0;
-    }
-    if !is_following(text[at + 2]) {
-        return 0;
-    }
+    following(text, at + 2)?;
     if a < 0xF0 {
-        if fits_three(a, b) {
-            return 3;
-        }
-        return 0;
+        return if fits_three(a, b) { Some(3) } else { None };
     }
-    if left < 4 {
-        return 0;
-    }
-    if !is_following(text[at + 3]) {
-        return 0;
-    }
-    if fits_four(a, b) {
-        return 4;
-    }
-    0
+    following(text, at + 3)?;
+    if fits_four(a, b) { Some(4) } else { None }
 }
 
 // Whether b is in place after p3, p2 and p1. It is compiled without a branch, so that the loop below becomes vector instructions.
@@ -248,11 +212,11 @@ pub fn validate(text: &[u8]) -> Result<(), BadAt>
         return Ok(());
     }
     let mut at = settle_blocks(text);
+    // Stays: no plainer as a `for`: each turn passes a whole character, and no iterator counts offsets by widths.
     while at < text.len() {
-        let width = width_at(text, at);
-        if width == 0 {
+        let Some(width) = width_at(text, at) else {
             return Err(BadAt(Offset(at)));
-        }
+        };
         at += width;
     }
     Ok(())

@@ -7,21 +7,22 @@ ghost use Rattle.chars.specs.Utf8.{first_bad};
 ghost use Rattle.chars.specs.Steps.{step_at, offset};
 ghost use Rattle.chars_c.specs.Outside.{up_to, numbers};
 
+use chars::class::{is_alphabetic, is_numeric};
 use chars::offset::Offset;
-use chars::utf8::BadAt;
+use chars::utf8::{BadAt, Step, step_at, validate};
 
 #[unsafe(no_mangle)]
 pub extern "C" fn hay_is_alphabetic(c: u32) -> bool
     ensures { result ≡ alphabetic c }
 {
-    chars::class::is_alphabetic(c)
+    is_alphabetic(c)
 }
 
 #[unsafe(no_mangle)]
 pub extern "C" fn hay_is_numeric(c: u32) -> bool
     ensures { result ≡ numeric c }
 {
-    chars::class::is_numeric(c)
+    is_numeric(c)
 }
 
 // The offset of the first bad byte, or the text's length.
@@ -29,12 +30,13 @@ pub extern "C" fn hay_is_numeric(c: u32) -> bool
 pub extern "C" fn hay_valid_up_to(text: &[u8]) -> usize
     ensures { result ≡ up_to (length text.now) (first_bad text.now) }
 {
-    match chars::utf8::validate(text) {
+    match validate(text) {
         Ok(()) => text.len(),
         Err(BadAt(at)) => at.0,
     }
 }
 
+// Stays: the C interface, include/hayrumble.h and tools that link chars, reads a status and not an enum.
 // A step as numbers. Status 0: a character, its scalar value and the offset after it; 1: a byte at which none starts; 2: the end.
 #[repr(C)]
 #[derive(Clone, Copy)]
@@ -49,19 +51,18 @@ pub struct HayStep {
 pub extern "C" fn hay_step(text: &[u8], at: usize) -> HayStep
     ensures { result ≡ numbers (step_at text.now (offset at)) }
 {
-    let step = chars::utf8::step_at(text, Offset(at));
-    match step {
-        chars::utf8::Step::Char(scalar, next) => HayStep {
+    match step_at(text, Offset(at)) {
+        Step::Char(scalar, next) => HayStep {
             status: 0,
-            scalar: scalar,
+            scalar,
             next: next.0,
         },
-        chars::utf8::Step::Bad => HayStep {
+        Step::Bad => HayStep {
             status: 1,
             scalar: 0,
             next: 0,
         },
-        chars::utf8::Step::End => HayStep {
+        Step::End => HayStep {
             status: 2,
             scalar: 0,
             next: 0,

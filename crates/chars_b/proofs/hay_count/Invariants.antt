@@ -5,8 +5,8 @@ use lib.ListN.{length}
 use Rattle.chars_b.proofs.Counting.{Counting}
 use Rattle.chars_b.proofs.hay_count.Given as goal
 
-abbrev pub invariant-loop-at : goal.invariant-loop-at
-invariant-loop-at l = Counting l.text l.count l.at
+abbrev pub invariant-loop-next : goal.invariant-loop-next
+invariant-loop-next l = Counting l.text l.count l.at.0
 
-abbrev pub decreases-loop-at : goal.decreases-loop-at
-decreases-loop-at l = length l.text - l.at
+abbrev pub decreases-loop-next : goal.decreases-loop-next
+decreases-loop-next l = length l.text - l.at.0

@@ -1,59 +1,33 @@
 -- `chars::utf8::scalar_at` meets its contract: one law for each lead byte. Assumes nothing.
-use mathlib.Core.Path.{◌∙◌}
+use mathlib.Core.Path.{◌≡◌, ◌∙◌}
+use mathlib.Core.List.{List}
+use Prim.Native.Nat.{ℕ, ◌-◌}
 use native.Mathlib.Omega.{arith}
-use lib.Bits.{mask_lt}
-use lib.Dec.{lit≤}
-use lib.ListN.{get_or}
+use lib.ListN.{length, take, drop, length-drop}
+use Rattle.std.proofs.lemmas.List.{take_all}
 use Rattle.chars.proofs.Fronts.{front_stray, front_none, scalar_none, scalar_two, scalar_three, scalar_four}
-use borrow.Author.Rules.{rules}
 use Rattle.chars.proofs.utf8.scalar_at.Goals as goal
 
-pub bounds-text-at : goal.bounds-text-at
-bounds-text-at c = search rules
+-- the rest of a text, as the code cuts it
+rest : (t : List ℕ) (n : ℕ) → take (length t - n) (drop n t) ≡ drop n t
+rest t n = take_all (length t - n) (drop n t) (omega (arith, length-drop n t))
 
-pub returns-then-a-lt192 : goal.returns-then-a-lt192
-returns-then-a-lt192 c =
+pub returns-in-192-to-223 : goal.returns-in-192-to-223
+returns-in-192-to-223 c =
+    rw rest at c.sequence.ensures ∙ scalar_two c.args.text.now c.args.at (omega arith) (omega arith) (omega arith)
+
+pub returns-in-224-to-239 : goal.returns-in-224-to-239
+returns-in-224-to-239 c =
+    rw rest at c.sequence-in-224-to-239.ensures ∙ scalar_three c.args.text.now c.args.at (omega arith) (omega arith) (omega arith)
+
+pub returns-in-240-to-247 : goal.returns-in-240-to-247
+returns-in-240-to-247 c =
+    rw rest at c.sequence-in-240-to-247.ensures ∙ scalar_four c.args.text.now c.args.at (omega arith) (omega arith) (omega arith)
+
+pub returns-in_default : goal.returns-in_default
+returns-in_default c =
     scalar_none c.args.text.now c.args.at (omega arith) (front_stray c.args.text.now c.args.at (omega arith) (omega arith) (omega arith))
 
-pub overflow_add-at : goal.overflow_add-at
-overflow_add-at c = search rules
-
-pub overflow_cast-a : goal.overflow_cast-a
-overflow_cast-a c = omega (arith, mask_lt (get_or c.args.text.now c.args.at 0) 5)
-
-pub sequence-requires : goal.sequence-requires
-sequence-requires c = (lit≤ tt, mask_lt (get_or c.args.text.now c.args.at 0) 5)
-
-pub returns-then-a-lt224 : goal.returns-then-a-lt224
-returns-then-a-lt224 c =
-    c.sequence.ensures ∙ scalar_two c.args.text.now c.args.at (omega arith) (omega arith) (omega arith)
-
-pub overflow_add-at-then-a-lt240 : goal.overflow_add-at-then-a-lt240
-overflow_add-at-then-a-lt240 c = search rules
-
-pub overflow_cast-a-then-a-lt240 : goal.overflow_cast-a-then-a-lt240
-overflow_cast-a-then-a-lt240 c = omega (arith, mask_lt (get_or c.args.text.now c.args.at 0) 4)
-
-pub sequence-requires-then-a-lt240 : goal.sequence-requires-then-a-lt240
-sequence-requires-then-a-lt240 c = (lit≤ tt, omega (arith, mask_lt (get_or c.args.text.now c.args.at 0) 4))
-
-pub returns-then-a-lt240 : goal.returns-then-a-lt240
-returns-then-a-lt240 c =
-    c.sequence-then-a-lt240.ensures ∙ scalar_three c.args.text.now c.args.at (omega arith) (omega arith) (omega arith)
-
-pub overflow_add-at-then-a-lt248 : goal.overflow_add-at-then-a-lt248
-overflow_add-at-then-a-lt248 c = search rules
-
-pub overflow_cast-a-then-a-lt248 : goal.overflow_cast-a-then-a-lt248
-overflow_cast-a-then-a-lt248 c = omega (arith, mask_lt (get_or c.args.text.now c.args.at 0) 3)
-
-pub sequence-requires-then-a-lt248 : goal.sequence-requires-then-a-lt248
-sequence-requires-then-a-lt248 c = (lit≤ tt, omega (arith, mask_lt (get_or c.args.text.now c.args.at 0) 3))
-
-pub returns-then-a-lt248 : goal.returns-then-a-lt248
-returns-then-a-lt248 c =
-    c.sequence-then-a-lt248.ensures ∙ scalar_four c.args.text.now c.args.at (omega arith) (omega arith) (omega arith)
-
-pub returns : goal.returns
-returns c =
+pub returns-in_default-2 : goal.returns-in_default-2
+returns-in_default-2 c =
     scalar_none c.args.text.now c.args.at (omega arith) (front_none c.args.text.now c.args.at (omega arith) (omega arith))

@@ -1,62 +1,50 @@
 -- `chars::utf8::sequence` meets its contract. The invariant, `Joining`: the bits joined so far, with the bytes still to come, are
--- those of the whole sequence. The measure is how many bytes are to come. Assumes nothing.
-use mathlib.Core.Path.{refl, sym, ◌∙◌}
+-- those of the whole sequence. Assumes nothing.
+use mathlib.Core.Path.{◌≡◌, sym, ap, ◌∙◌}
+use mathlib.Core.List.{List}
+use Prim.Native.Nat.{ℕ, ◌-◌, ◌<◌}
 use native.Mathlib.Omega.{arith}
-use borrow.Author.Rules.{rules}
-use lib.Bits.{and_le_r}
 use lib.ListN.{get_or}
-use Rattle.chars.proofs.Joining.{small_start, joining_more, joining_stray, joining_short, joining_done, answer_none, answer_overlong, answer_char, answer_no_scalar}
+use Rattle.std.specs.Prelude.{slice_range}
+use Rattle.std.proofs.lemmas.List.{get_or-take}
+use Rattle.chars.specs.Utf8.{follows, joined}
+use Rattle.chars.proofs.Joining.{small_start, joined_few, joining_more, joining_stray, joining_done, answer_none, answer_overlong, answer_char, answer_no_scalar}
 use Rattle.chars.proofs.utf8.sequence.Goals as goal
+use Rattle.chars.proofs.utf8.sequence.Goals.{else-least-x-via-then-least-x+else-is_scalar, else-least-x-via-else-least-x}
 
-pub loop-n-init : goal.loop-n-init
-loop-n-init c =
-    record { few = omega arith; small = small_start _ _ c.requires.0 c.requires.1; place = refl; same = refl }
+item : (rest items : List ℕ) (n i : ℕ) → items ≡ slice_range rest 0 n → i < n → get_or items i 0 ≡ get_or rest i 0
+item rest items n i e h = rw e (get_or-take (n - 0) rest i 0 (omega arith))
 
-pub returns-then-text-at : goal.returns-then-text-at
-returns-then-text-at c = answer_none _ _ _ (joining_short c.loop-n.invariant c.loop-n-test.true c.if-text-at.true)
+pub returns-in_err-b-items : goal.returns-in_err-b-items
+returns-in_err-b-items c =
+    let few = c.in_err-b-items.ensures.lookup.0 in
+    c.from_residual.ensures ∙ answer_none _ _ _ (joined_few _ _ _ (omega arith))
 
-pub bounds-text-at : goal.bounds-text-at
-bounds-text-at c = omega arith
-
-pub is_following-requires : goal.is_following-requires
-is_following-requires c = search rules
+pub loop-b-init : goal.loop-b-init
+loop-b-init c = record { few = c.requires.0; small = small_start _ _ (omega (arith, c.requires.0)) c.requires.1; same = ap (λ (n : ℕ). joined n c.args.lead c.args.rest.now) (omega arith) }
 
 pub returns-then-not-is_following : goal.returns-then-not-is_following
 returns-then-not-is_following c =
-    answer_none _ _ _
-    (joining_stray c.loop-n.invariant c.loop-n-test.true c.if-text-at.false (sym c.is_following.ensures ∙ c.if-not-is_following.true))
+    let items = c.in_ok-b-items.ensures.lookup.0 in
+    let is = item c.args.rest.now c.in_ok-b-items.b-items.now c.args.count c.loop-b.b-index items.2 (omega (arith, items.3)) in
+    answer_none _ _ _ (joining_stray c.loop-b.invariant (omega (arith, items.3)) (omega (arith, items.3)) (ap follows (sym is) ∙ sym c.is_following.ensures ∙ c.if-not-is_following.true))
 
-pub overflow_cast-x : goal.overflow_cast-x
-overflow_cast-x c =
-    omega (arith, and_le_r (get_or c.args.text.now c.loop-n.at 0) 63)
-
-pub overflow_add-at : goal.overflow_add-at
-overflow_add-at c = omega arith
-
-pub overflow_sub-n : goal.overflow_sub-n
-overflow_sub-n c = omega arith
-
-pub loop-n-smaller : goal.loop-n-smaller
-loop-n-smaller c = omega arith
-
-pub loop-n-preserved : goal.loop-n-preserved
-loop-n-preserved c =
-    joining_more c.loop-n.invariant c.loop-n-test.true c.if-text-at.false (sym c.is_following.ensures ∙ c.if-not-is_following.false)
-
-pub returns-then-x-least : goal.returns-then-x-least
-returns-then-x-least c =
-    let done = joining_done c.loop-n.invariant c.loop-n-test.false in
-    answer_overlong _ _ _ _ done c.if-x-least.true
-
-pub is_scalar-requires : goal.is_scalar-requires
-is_scalar-requires c = search rules
+pub loop-b-preserved : goal.loop-b-preserved
+loop-b-preserved c =
+    let items = c.in_ok-b-items.ensures.lookup.0 in
+    let is = item c.args.rest.now c.in_ok-b-items.b-items.now c.args.count c.loop-b.b-index items.2 (omega (arith, items.3)) in
+    rw is (joining_more c.loop-b.invariant (omega (arith, items.3)) (omega (arith, items.3)) (ap follows (sym is) ∙ sym c.is_following.ensures ∙ c.if-not-is_following.false))
 
 pub returns-then-is_scalar : goal.returns-then-is_scalar
 returns-then-is_scalar c =
-    let done = joining_done c.loop-n.invariant c.loop-n-test.false in
-    answer_char _ _ _ _ done c.if-x-least.false (sym c.is_scalar.ensures ∙ c.if-is_scalar.true)
+    let items = c.in_ok-b-items.ensures.lookup.0 in
+    answer_char _ _ _ _ (joining_done c.loop-b.invariant (omega (arith, items.3))) c.if-least-x.true (sym c.is_scalar.ensures ∙ c.if-is_scalar.true)
 
-pub returns : goal.returns
-returns c =
-    let done = joining_done c.loop-n.invariant c.loop-n-test.false in
-    answer_no_scalar _ _ _ _ done c.if-x-least.false (sym c.is_scalar.ensures ∙ c.if-is_scalar.false)
+pub returns-else-least-x : goal.returns-else-least-x
+returns-else-least-x c =
+    let items = c.in_ok-b-items.ensures.lookup.0 in
+    let done = joining_done c.loop-b.invariant (omega (arith, items.3)) in
+    elim c.else-least-x.branch [
+      else-least-x-via-then-least-x+else-is_scalar w ↦ answer_no_scalar _ _ _ _ done w.if-least-x.true (sym w.is_scalar.ensures ∙ w.if-is_scalar.false)
+    | else-least-x-via-else-least-x w ↦ answer_overlong _ _ _ _ done w.if-least-x.false
+    ]

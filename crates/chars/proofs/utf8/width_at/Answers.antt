@@ -1,99 +1,72 @@
 -- `chars::utf8::width_at` meets its contract: each return is one law of Sizes.antt. Assumes nothing.
-use mathlib.Core.Path.{sym, ap, ◌∙◌}
+use mathlib.Core.Path.{◌≡◌, sym, ap, ◌∙◌}
 use mathlib.Core.Bool.{Bool, cond}
-use native.Mathlib.Omega.{arith}
+use mathlib.Core.List.{List}
 use Prim.Native.Nat.{ℕ}
-use Rattle.chars.proofs.Sizes.{size_one, size_low, second_missing, second_stray, size_two, third_missing, third_stray, size_three, fourth_missing, fourth_stray, size_four}
-use borrow.Author.Rules.{rules}
+use native.Mathlib.Omega.{arith}
+use Rattle.std.specs.Prelude.{Option, Some, None}
+use Rattle.chars.proofs.Joining.{followed}
+use Rattle.chars.proofs.Sizes.{size_one, size_low, second_none, size_two, third_none, size_three, fourth_none, size_four}
 use Rattle.chars.proofs.utf8.width_at.Goals as goal
 
-pub bounds-text-at : goal.bounds-text-at
-bounds-text-at c = search rules
-
 pub returns-then-a-lt128 : goal.returns-then-a-lt128
-returns-then-a-lt128 c =
-    size_one c.args.text.now c.args.at (omega arith) (omega arith)
+returns-then-a-lt128 c = size_one c.args.text.now c.args.at (omega arith) (omega arith)
 
 pub returns-then-a-lt194 : goal.returns-then-a-lt194
-returns-then-a-lt194 c =
-    size_low c.args.text.now c.args.at (omega arith) (omega arith) (omega arith)
+returns-then-a-lt194 c = size_low c.args.text.now c.args.at (omega arith) (omega arith) (omega arith)
 
-pub overflow_sub-left : goal.overflow_sub-left
-overflow_sub-left c = search rules
-
-pub returns-then-left-lt2 : goal.returns-then-left-lt2
-returns-then-left-lt2 c =
-    second_missing c.args.text.now c.args.at (omega arith) (omega arith) (omega arith)
-
-pub overflow_add-b : goal.overflow_add-b
-overflow_add-b c = search rules
-
-pub bounds-text-at-2 : goal.bounds-text-at-2
-bounds-text-at-2 c = search rules
-
-pub is_following-requires : goal.is_following-requires
-is_following-requires c = search rules
-
-pub returns-then-not-is_following : goal.returns-then-not-is_following
-returns-then-not-is_following c =
-    second_stray c.args.text.now c.args.at (omega arith) (omega arith) (omega arith) (sym c.is_following.ensures ∙ c.if-not-is_following.true)
+pub returns-in_err-b : goal.returns-in_err-b
+returns-in_err-b c = c.from_residual.ensures ∙ second_none c.args.text.now c.args.at (omega arith) (omega arith) (sym c.following.ensures ∙ c.in_err-b.was)
 
 pub returns-then-a-lt224 : goal.returns-then-a-lt224
 returns-then-a-lt224 c =
-    size_two c.args.text.now c.args.at (omega arith) (omega arith) (omega arith) (sym c.is_following.ensures ∙ c.if-not-is_following.false) (omega arith)
+    let b = followed _ _ _ (sym c.in_ok-b.was ∙ c.following.ensures) in
+    size_two c.args.text.now c.args.at (omega arith) (omega arith) b.inside b.follows_it (omega arith)
 
-pub returns-then-left-lt3 : goal.returns-then-left-lt3
-returns-then-left-lt3 c =
-    third_missing c.args.text.now c.args.at (omega arith) (omega arith) (omega arith) (sym c.is_following.ensures ∙ c.if-not-is_following.false) (omega arith) (omega arith)
-
-pub overflow_add-at : goal.overflow_add-at
-overflow_add-at c = search rules
-
-pub bounds-text-at-3 : goal.bounds-text-at-3
-bounds-text-at-3 c = search rules
-
-pub is_following-requires-2 : goal.is_following-requires-2
-is_following-requires-2 c = search rules
-
-pub returns-then-not-is_following-2 : goal.returns-then-not-is_following-2
-returns-then-not-is_following-2 c =
-    third_stray c.args.text.now c.args.at (omega arith) (omega arith) (omega arith) (sym c.is_following.ensures ∙ c.if-not-is_following.false) (omega arith) (omega arith) (sym c.is_following-2.ensures ∙ c.if-not-is_following-2.true)
-
-pub fits_three-requires : goal.fits_three-requires
-fits_three-requires c = search rules
+pub returns-in_err-following : goal.returns-in_err-following
+returns-in_err-following c =
+    let b = followed _ _ _ (sym c.in_ok-b.was ∙ c.following.ensures) in
+    c.from_residual-in_err-following.ensures
+    ∙ third_none c.args.text.now c.args.at (omega arith) (omega arith) b.inside b.follows_it (omega arith) (sym c.following-2.ensures ∙ c.in_err-following.was)
 
 pub returns-then-fits_three : goal.returns-then-fits_three
 returns-then-fits_three c =
-    ap (λ (p : Bool). cond {A = ℕ} p 3 0) (sym c.if-fits_three.true ∙ c.fits_three.ensures) ∙ size_three c.args.text.now c.args.at (omega arith) (omega arith) (omega arith) (sym c.is_following.ensures ∙ c.if-not-is_following.false) (omega arith) (omega arith) (sym c.is_following-2.ensures ∙ c.if-not-is_following-2.false) (omega arith)
+    let b = followed _ _ _ (sym c.in_ok-b.was ∙ c.following.ensures) in
+    let d = followed _ _ _ (sym c.in_ok-following.was ∙ c.following-2.ensures) in
+    let fits = rw b.is at (sym c.if-fits_three.true ∙ c.fits_three.ensures) in
+    ap (λ (p : Bool). cond {A = Option ℕ} p (Some 3) None) fits
+    ∙ size_three c.args.text.now c.args.at (omega arith) (omega arith) b.inside b.follows_it (omega arith) d.inside d.follows_it (omega arith)
 
-pub returns-then-a-lt240 : goal.returns-then-a-lt240
-returns-then-a-lt240 c =
-    ap (λ (p : Bool). cond {A = ℕ} p 3 0) (sym c.if-fits_three.false ∙ c.fits_three.ensures) ∙ size_three c.args.text.now c.args.at (omega arith) (omega arith) (omega arith) (sym c.is_following.ensures ∙ c.if-not-is_following.false) (omega arith) (omega arith) (sym c.is_following-2.ensures ∙ c.if-not-is_following-2.false) (omega arith)
+pub returns-else-fits_three : goal.returns-else-fits_three
+returns-else-fits_three c =
+    let b = followed _ _ _ (sym c.in_ok-b.was ∙ c.following.ensures) in
+    let d = followed _ _ _ (sym c.in_ok-following.was ∙ c.following-2.ensures) in
+    let fits = rw b.is at (sym c.if-fits_three.false ∙ c.fits_three.ensures) in
+    ap (λ (p : Bool). cond {A = Option ℕ} p (Some 3) None) fits
+    ∙ size_three c.args.text.now c.args.at (omega arith) (omega arith) b.inside b.follows_it (omega arith) d.inside d.follows_it (omega arith)
 
-pub returns-then-left-lt4 : goal.returns-then-left-lt4
-returns-then-left-lt4 c =
-    fourth_missing c.args.text.now c.args.at (omega arith) (omega arith) (omega arith) (sym c.is_following.ensures ∙ c.if-not-is_following.false) (omega arith) (omega arith) (sym c.is_following-2.ensures ∙ c.if-not-is_following-2.false) (omega arith) (omega arith)
-
-pub overflow_add-at-2 : goal.overflow_add-at-2
-overflow_add-at-2 c = search rules
-
-pub bounds-text-at-4 : goal.bounds-text-at-4
-bounds-text-at-4 c = search rules
-
-pub is_following-requires-3 : goal.is_following-requires-3
-is_following-requires-3 c = search rules
-
-pub returns-then-not-is_following-3 : goal.returns-then-not-is_following-3
-returns-then-not-is_following-3 c =
-    fourth_stray c.args.text.now c.args.at (omega arith) (omega arith) (omega arith) (sym c.is_following.ensures ∙ c.if-not-is_following.false) (omega arith) (omega arith) (sym c.is_following-2.ensures ∙ c.if-not-is_following-2.false) (omega arith) (omega arith) (sym c.is_following-3.ensures ∙ c.if-not-is_following-3.true)
-
-pub fits_four-requires : goal.fits_four-requires
-fits_four-requires c = search rules
+pub returns-in_err-following-2 : goal.returns-in_err-following-2
+returns-in_err-following-2 c =
+    let b = followed _ _ _ (sym c.in_ok-b.was ∙ c.following.ensures) in
+    let d = followed _ _ _ (sym c.in_ok-following.was ∙ c.following-2.ensures) in
+    c.from_residual-in_err-following-2.ensures
+    ∙ fourth_none c.args.text.now c.args.at (omega arith) (omega arith) b.inside b.follows_it (omega arith) d.inside d.follows_it (omega arith)
+    (sym c.following-3.ensures ∙ c.in_err-following-2.was)
 
 pub returns-then-fits_four : goal.returns-then-fits_four
 returns-then-fits_four c =
-    ap (λ (p : Bool). cond {A = ℕ} p 4 0) (sym c.if-fits_four.true ∙ c.fits_four.ensures) ∙ size_four c.args.text.now c.args.at (omega arith) (omega arith) (omega arith) (sym c.is_following.ensures ∙ c.if-not-is_following.false) (omega arith) (omega arith) (sym c.is_following-2.ensures ∙ c.if-not-is_following-2.false) (omega arith) (omega arith) (sym c.is_following-3.ensures ∙ c.if-not-is_following-3.false)
+    let b = followed _ _ _ (sym c.in_ok-b.was ∙ c.following.ensures) in
+    let d = followed _ _ _ (sym c.in_ok-following.was ∙ c.following-2.ensures) in
+    let e = followed _ _ _ (sym c.in_ok-following-2.was ∙ c.following-3.ensures) in
+    let fits = rw b.is at (sym c.if-fits_four.true ∙ c.fits_four.ensures) in
+    ap (λ (p : Bool). cond {A = Option ℕ} p (Some 4) None) fits
+    ∙ size_four c.args.text.now c.args.at (omega arith) (omega arith) b.inside b.follows_it (omega arith) d.inside d.follows_it (omega arith) e.inside e.follows_it
 
-pub returns : goal.returns
-returns c =
-    ap (λ (p : Bool). cond {A = ℕ} p 4 0) (sym c.if-fits_four.false ∙ c.fits_four.ensures) ∙ size_four c.args.text.now c.args.at (omega arith) (omega arith) (omega arith) (sym c.is_following.ensures ∙ c.if-not-is_following.false) (omega arith) (omega arith) (sym c.is_following-2.ensures ∙ c.if-not-is_following-2.false) (omega arith) (omega arith) (sym c.is_following-3.ensures ∙ c.if-not-is_following-3.false)
+pub returns-else-fits_four : goal.returns-else-fits_four
+returns-else-fits_four c =
+    let b = followed _ _ _ (sym c.in_ok-b.was ∙ c.following.ensures) in
+    let d = followed _ _ _ (sym c.in_ok-following.was ∙ c.following-2.ensures) in
+    let e = followed _ _ _ (sym c.in_ok-following-2.was ∙ c.following-3.ensures) in
+    let fits = rw b.is at (sym c.if-fits_four.false ∙ c.fits_four.ensures) in
+    ap (λ (p : Bool). cond {A = Option ℕ} p (Some 4) None) fits
+    ∙ size_four c.args.text.now c.args.at (omega arith) (omega arith) b.inside b.follows_it (omega arith) d.inside d.follows_it (omega arith) e.inside e.follows_it
