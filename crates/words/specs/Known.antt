@@ -1,12 +1,12 @@
 -- The texts that have a kind of their own: 37 words, seventeen runs, and the beginnings of hexadecimal and binary numbers.
 -- Assumes nothing.
-use Rattle.std.specs.Prelude.{ℕ, ◌+◌, ◌*◌, Bool, true, false, cond, ◌&&◌, Option, None, Some, List, [], ◌∷◌, ◌++◌, map, eqb, leb, length, get_or, take, replicate}
+use Rattle.std.specs.Prelude.{ℕ, ◌+◌, ◌*◌, Bool, true, false, cond, ◌&&◌, Option, None, Some, List, [], ◌∷◌, ◌++◌, map, eqb, leb, length, get_or}
+use Rattle.std.specs.Borrow.{Bor}
 use Rattle.tokens.specs.Kinds as kind
 use Rattle.tokens.specs.Texts.{Row, row}
 use Rattle.words.specs.declared.guess.Sort.{Sort}
 use Rattle.words.specs.declared.guess.Sort.TheVariants.{Words, Runs, Zeros}
 use Rattle.words.specs.declared.guess.Guess.{Guess}
-use Rattle.words.specs.declared.table.Known.{Known}
 
 -- an ASCII capital in lower case
 abbrev pub lower : ℕ → ℕ
@@ -114,13 +114,9 @@ unfoldable pub known : List Row
 known = words ++ runs ++ zeros
 
 -- ---- how the code keeps the table
--- a row with its text padded
-abbrev pub padded : Row → Known
-padded r = record { 0 = take 9 (r.text ++ replicate 9 32); 1 = r.kind }
-
--- as src/table.rt has it
-unfoldable pub known_texts : List Known
-known_texts = map padded known
+-- a row as src/table.rt has it
+abbrev pub plain : Bor (List ℕ) × ℕ → Row
+plain r = record { text = r.0.now; kind = r.1 }
 
 -- the letters of all rows, one after the other
 abbrev pub laid_out : List Row → List ℕ
