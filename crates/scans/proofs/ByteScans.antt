@@ -19,6 +19,8 @@ use lib.Dec.{eqb}
 use lib.ListN.{length, get_or, drop, drop_of_length-le}
 use lib.Seq.{drop-cons}
 use borrow.Author.Tests.{ne_eqb}
+use Rattle.std.specs.List.{prefix_len, take_while}
+use Rattle.std.proofs.lemmas.List.Folds.{length-prefix_len}
 use Rattle.chars.specs.Utf8.{chars, encode, encode_all}
 use Rattle.scans.specs.Scans.{scan, span, bytes, reach, closes, escapes, ended, then, in_line, in_run}
 use Rattle.scans.specs.Next.{is_of, NoneOf, FirstOf}
@@ -127,6 +129,19 @@ module _ (p : ℕ → Bool) (alike : (c h : ℕ) → 0x80 ≤ c → 0x80 ≤ h �
   pub over_bytes : (t : List ℕ) (from : ℕ) → Whole t from → from + span p (drop from t) ≡ reach (span p) t from
   unfolding span
   over_bytes t from w = byte_reach (λ _ c. not (p c)) (λ seen _. seen) span_passes t from tt w
+
+-- the same by the library's words
+span-prefix : (p : ℕ → Bool) (l : List ℕ) → prefix_len p l ≡ span p l
+unfolding span scan
+span-prefix p [] = refl
+span-prefix p (c ∷ l) = go (p c) (span-prefix p l)
+  where
+    go : (x : Bool) → prefix_len p l ≡ span p l → cond x (1 + prefix_len p l) 0 ≡ cond (not x) 0 (suc (span p l))
+    go true ih = omega (arith, ih)
+    go false ih = refl
+
+pub span-taken : (p : ℕ → Bool) (l : List ℕ) → length (take_while p l) ≡ span p l
+span-taken p l = length-prefix_len p l ∙ span-prefix p l
 
 module _ (p : ℕ → Bool) (t : List ℕ) (at : ℕ) where
   pub span_byte_on : at < length t → not (p (get_or t at 0)) ≡ false → at + span p (drop at t) ≡ at + 1 + span p (drop (at + 1) t)

@@ -88,3 +88,6 @@ module _ (c : ℕ) where
       go : (b : Bool) → eqb c k ≡ b → b ≡ x
       go true e = sym (f (eqb-true c k e))
       go false e = sym (g (eqb-false c k e))
+
+-- below 0x80 the two classes are the digits and the letters
+pub ruleset classes = (numeric_in, numeric_out, capital_in, small_in, alphabetic_out)

@@ -4,3 +4,4 @@ pub mod Nones
 pub mod ByteScans
 pub mod Quotes
 pub mod Classes
+pub mod Comments

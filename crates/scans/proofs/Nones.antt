@@ -1,19 +1,37 @@
 -- Stretches of a text where neither of two bytes stands.
+-- from_on                         the text from an offset on
 -- none_here, none_more, none_join   nothing yet, one byte more, two stretches
+-- none_before, found_at           before the first of the two, and where it stands
+-- none_blocks, over_blocks         blocks of sixteen bytes that hold neither
+-- found-none, found-some           what a look over blocks and then over bytes has found
 -- neither, second                   a byte that is not one of the two; one that is, and not the first
 -- Assumes nothing.
-use mathlib.Core.Path.{◌≡◌, refl, sym}
-use mathlib.Core.Bool.{Bool, true, false, ◌||◌, false≢true}
+use mathlib.Core.Path.{◌≡◌, refl, sym, ap, ◌∙◌}
+use mathlib.Core.Bool.{Bool, true, false, cond, not, ◌||◌, false≢true}
 use mathlib.Core.Logic.{◌⊎◌, inl, inr}
-use mathlib.Core.List.{List}
-use Prim.Native.Nat.{ℕ, ◌+◌, ◌≤◌, ◌<◌}
+use mathlib.Core.List.{List, [], ◌∷◌}
+use Prim.Native.Nat.{ℕ, zero, suc, ◌+◌, ◌-◌, ◌*◌, ◌/◌, ◌≤◌, ◌<◌}
 use native.Mathlib.Nat.{eq-or-lt_of_le}
 use native.Mathlib.Decide.{dec_lt}
 use native.Mathlib.Omega.{arith}
 use lib.Dec.{eqb}
-use borrow.Author.Tests.{eqb-true, ne_eqb}
-use lib.ListN.{get_or}
-use Rattle.scans.specs.Next.{is_of, NoneOf}
+use borrow.Author.Tests.{eqb-true, ne_eqb, ltb-true, ltb-false}
+use lib.ListN.{length, get_or, take, drop, length-take, length-drop}
+use lib.Seq.{get_or-take, get_or-drop}
+use Rattle.std.specs.Prelude.{None, Some}
+use Rattle.std.specs.Bool.{nat_lt}
+use Rattle.std.specs.List.{prefix_len, position, position_or_len, take_while, count_by, filter}
+use Rattle.std.specs.Simd.{first_chunks}
+use Rattle.std.proofs.lemmas.List.Sums.{prefix_len_passes, prefix_len_stops, length-filter}
+use Rattle.std.proofs.lemmas.List.{take_all}
+use Rattle.std.proofs.lemmas.List.Folds.{length-prefix_len}
+use Rattle.chars.specs.Steps.{offset}
+use Rattle.chars.proofs.Scalars.{clash}
+use Rattle.scans.specs.Next.{is_of, NoneOf, FoundOf}
+
+-- as the code takes the text from an offset on
+pub from_on : (t : List ℕ) (from : ℕ) → take (length t - from) (drop from t) ≡ drop from t
+from_on t from = take_all (length t - from) (drop from t) (omega (arith, length-drop from t))
 
 module _ (a b : ℕ) (t : List ℕ) (from : ℕ) where
   pub none_here : (to : ℕ) → to ≤ from → NoneOf a b t from to
@@ -32,6 +50,109 @@ module _ (a b : ℕ) (t : List ℕ) (from : ℕ) where
       go : Dec (i < mid) → is_of a b (get_or t i 0) ≡ false
       go (yes k) = f i l k
       go (no k) = g i (omega arith) m
+
+  -- from the offset from on neither of the two stands among the first bytes of the rest
+  pub none_after : (n : ℕ) → NoneOf a b (drop from t) 0 n → NoneOf a b t from (from + n)
+  none_after n f i l m =
+      let e : get_or (drop from t) (i - from) 0 ≡ get_or t i 0 = get_or-drop from t (i - from) 0 ∙ ap (λ (k : ℕ). get_or t k 0) (omega arith) in
+      rw e at (f (i - from) (omega arith) (omega arith))
+
+-- the first of the two by the library's words
+module _ (a b : ℕ) where
+  pub none_before : (l : List ℕ) (n : ℕ) → n ≤ position_or_len (is_of a b) l → NoneOf a b l 0 n
+  none_before l n h i _ m = not_true (is_of a b (get_or l i 0)) (prefix_len_passes (λ (c : ℕ). not (is_of a b c)) l i 0 (omega arith))
+    where
+      not_true : (x : Bool) → not x ≡ true → x ≡ false
+      not_true false e = refl
+      not_true true e = sym e
+
+  pub found_at : (l : List ℕ) → position_or_len (is_of a b) l < length l → is_of a b (get_or l (position_or_len (is_of a b) l) 0) ≡ true
+  found_at l h = not_false (is_of a b (get_or l (position_or_len (is_of a b) l) 0)) (prefix_len_stops (λ (c : ℕ). not (is_of a b c)) l 0 h)
+    where
+      not_false : (x : Bool) → not x ≡ false → x ≡ true
+      not_false true e = refl
+      not_false false e = sym e
+
+  -- a block that holds neither
+  abbrev pub plain : List ℕ → Bool
+  plain l = eqb (count_by (is_of a b) l) 0
+
+  none_filtered : (l : List ℕ) → length (filter (is_of a b) l) ≡ 0 → (i : ℕ) → i < length l → is_of a b (get_or l i 0) ≡ false
+  none_filtered [] e i h = absurd (omega arith)
+  none_filtered (c ∷ l) e i h = go (is_of a b c) refl e (none_filtered l) i h
+    where
+      go : (x : Bool) → is_of a b c ≡ x → length (cond x (c ∷ filter (is_of a b) l) (filter (is_of a b) l)) ≡ 0
+          → (length (filter (is_of a b) l) ≡ 0 → (i : ℕ) → i < length l → is_of a b (get_or l i 0) ≡ false)
+          → (i : ℕ) → i < suc (length l) → is_of a b (get_or (c ∷ l) i 0) ≡ false
+      go true q z ih i h = absurd (omega arith)
+      go false q z ih zero h = q
+      go false q z ih (suc i) h = ih z i (omega arith)
+
+  pub none_blocks : (n : ℕ) (t : List ℕ) → 16 * n ≤ length t
+      → let k = prefix_len plain (first_chunks 16 n t) in
+      (16 * k ≤ length t) × NoneOf a b t 0 (16 * k)
+  none_blocks zero t h = (omega arith, λ i l m. absurd (omega arith))
+  none_blocks (suc n) t h = go (plain (take 16 t)) refl (none_blocks n (drop 16 t) (simp length-drop (omega arith)))
+    where
+      go : (x : Bool) → plain (take 16 t) ≡ x
+          → (let k = prefix_len plain (first_chunks 16 n (drop 16 t)) in (16 * k ≤ length (drop 16 t)) × NoneOf a b (drop 16 t) 0 (16 * k))
+          → let k = cond x (1 + prefix_len plain (first_chunks 16 n (drop 16 t))) 0 in
+          (16 * k ≤ length t) × NoneOf a b t 0 (16 * k)
+      go false q ih = (omega arith, λ i l m. absurd (omega arith))
+      go true q ih =
+          let k : ℕ = prefix_len plain (first_chunks 16 n (drop 16 t)) in
+          let d : 16 ≤ length t = omega arith in
+          let first : NoneOf a b t 0 16 = λ i l m.
+          rw (get_or-take 16 t i 0 m) at (none_filtered (take 16 t) (length-filter (is_of a b) (take 16 t) ∙ eqb-true (count_by (is_of a b) (take 16 t)) 0 q) i (simp length-take (omega arith))) in
+          (omega (arith, length-drop 16 t, ih.0), none_join a b t 0 16 (16 * (1 + k)) first (λ i l m. none_after a b t 16 (16 * k) ih.1 i l (omega arith)))
+
+-- from the offset from on, the blocks that hold neither
+pub over_blocks : (a b : ℕ) (t : List ℕ) (from k : ℕ) → from ≤ length t
+    → (let l = take (length t - from) (drop from t) in k ≡ length (take_while (plain a b) (first_chunks 16 (length l / 16) l)))
+    → (from + 16 * k ≤ length t) × NoneOf a b t from (from + 16 * k)
+over_blocks a b t from k h e =
+    let l = drop from t in
+    let n = none_blocks a b (length l / 16) l (omega arith) in
+    let d : k ≡ prefix_len (plain a b) (first_chunks 16 (length l / 16) l) =
+    rw (from_on t from) at e ∙ length-prefix_len (plain a b) (first_chunks 16 (length l / 16) l) in
+    rw d (omega (arith, length-drop from t, n.0), none_after a b t from (16 * prefix_len (plain a b) (first_chunks 16 (length l / 16) l)) n.1)
+
+-- a look from the offset from on, over blocks up to the offset at, and then over bytes
+module _ (a b : ℕ) (t : List ℕ) (from at : ℕ) (after : from ≤ at) (within : at ≤ length t) (none : NoneOf a b t from at) where
+  abbrev pub rest : List ℕ
+  rest = drop at t
+
+  rest-length : length rest ≡ length t - at
+  rest-length = length-drop at t
+
+  pub found-none : position (is_of a b) rest ≡ None → FoundOf a b t from None
+  found-none e = go (nat_lt (position_or_len (is_of a b) rest) (length rest)) refl e
+    where
+      go : (x : Bool) → nat_lt (position_or_len (is_of a b) rest) (length rest) ≡ x → cond x (Some (position_or_len (is_of a b) rest)) None ≡ None → FoundOf a b t from None
+      go true q d = clash (cc)
+      go false q d = record {
+        after = omega arith;
+        within = omega arith;
+        none = none_join a b t from at (length t) none (λ i l m. none_after a b t at (length t - at) (none_before a b rest (length t - at) (omega (arith, ltb-false (position_or_len (is_of a b) rest) (length rest) q, rest-length))) i l (omega arith));
+        found = λ h. absurd (omega arith);
+      }
+
+  pub found-some : (n : ℕ) → position (is_of a b) rest ≡ Some n → FoundOf a b t from (Some (offset (at + n)))
+  found-some n e = go (nat_lt (position_or_len (is_of a b) rest) (length rest)) refl e
+    where
+      go : (x : Bool) → nat_lt (position_or_len (is_of a b) rest) (length rest) ≡ x → cond x (Some (position_or_len (is_of a b) rest)) None ≡ Some n → FoundOf a b t from (Some (offset (at + n)))
+      go true q d =
+          let p : position_or_len (is_of a b) rest ≡ n = cc in
+          let h : position_or_len (is_of a b) rest < length rest = ltb-true (position_or_len (is_of a b) rest) (length rest) q in (
+            record {
+              after = omega arith;
+              within = omega (arith, rest-length, h, p);
+              none = none_join a b t from at (at + n) none (none_after a b t at n (none_before a b rest n (omega (arith, p))));
+              found = λ k. rw (p, get_or-drop at t n 0) at (found_at a b rest h);
+            },
+            omega (arith, rest-length, h, p),
+          )
+      go false q d = clash (cc)
 
 module _ (a b c : ℕ) where
   pub neither : is_of a b c ≡ false → (eqb c a ≡ false) × (eqb c b ≡ false)

@@ -1,5 +1,6 @@
 -- The first of two bytes in a text. Assumes nothing.
-use Rattle.std.specs.Prelude.{ℕ, ◌≤◌, ◌<◌, ◌≡◌, Bool, true, false, ◌||◌, List, eqb, length, get_or}
+use Rattle.std.specs.Prelude.{ℕ, ◌≤◌, ◌<◌, ◌≡◌, Bool, true, false, ◌||◌, Option, None, Some, List, eqb, length, get_or}
+use Rattle.chars.specs.declared.offset.Offset.{Offset}
 
 -- c is one of the two
 unfoldable pub is_of : ℕ → ℕ → ℕ → Bool
@@ -15,3 +16,8 @@ pub record FirstOf (a b : ℕ) (text : List ℕ) (from at : ℕ) : Type 0 where
   pub within : at ≤ length text
   pub none : NoneOf a b text from at
   pub found : at < length text → is_of a b (get_or text at 0) ≡ true
+
+-- where the code found it, or that it found none
+abbrev pub FoundOf : ℕ → ℕ → List ℕ → ℕ → Option Offset → Type 0
+FoundOf a b text from None = FirstOf a b text from (length text)
+FoundOf a b text from (Some at) = FirstOf a b text from at.0 × (at.0 < length text)

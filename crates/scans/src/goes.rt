@@ -1,11 +1,14 @@
 // What goes on in a scan: the tests of the stop rules that the Rust hands to `scan_until`.
+#![tactic(auto, using(crate::proofs::Classes::classes), unfolding(crate::specs::Scans::goes_on, crate::specs::Scans::in_charset, crate::specs::Scans::in_word, crate::specs::Scans::in_number, crate::specs::Scans::in_run))]
+
 ghost use Rattle.std.specs.Prelude.{◌≡◌, ◌<◌};
 ghost use Rattle.scans.specs.Ways.{pinned};
 ghost use Rattle.scans.specs.Scans.{in_run, goes_on};
+ghost use Rattle.scans.specs.declared.goes.Stop.{Stop};
 
 use chars::class::{is_alphabetic, is_numeric};
 
-// The stop rules that ask for a class of characters.
+// The stop rules that ask for a class of characters, as the definitions name them.
 #[derive(Clone, Copy)]
 pub enum Stop {
     Numerics,
@@ -14,122 +17,81 @@ pub enum Stop {
     Number,
 }
 
+// One of these rules: whether a scan by it goes on over an ASCII character, and over any.
+pub trait StopRule {
+    ghost stop: { Stop };
+
+    fn ascii_goes_on(b: u8) -> bool
+        requires { b < 0x80 }
+        ensures { result ≡ goes_on pinned stop b };
+
+    fn goes_on(c: u32) -> bool
+        ensures { result ≡ goes_on pinned stop c };
+}
+
+// Rule 5: the numerics of a placeholder.
+pub struct Numerics;
+
+impl StopRule for Numerics {
+    ghost stop = { Stop.Numerics };
+
+    fn ascii_goes_on(b: u8) -> bool {
+        b.is_ascii_digit()
+    }
+
+    fn goes_on(c: u32) -> bool {
+        is_numeric(c)
+    }
+}
+
+// Rule 8: the letters of a charset.
+pub struct Charset;
+
+impl StopRule for Charset {
+    ghost stop = { Stop.Charset };
+
+    fn ascii_goes_on(b: u8) -> bool {
+        b.is_ascii_alphanumeric()
+    }
+
+    fn goes_on(c: u32) -> bool {
+        is_alphabetic(c) || is_numeric(c)
+    }
+}
+
+// Rule 9: the letters of a word.
+pub struct Word;
+
+impl StopRule for Word {
+    ghost stop = { Stop.Word };
+
+    fn ascii_goes_on(b: u8) -> bool {
+        matches!(b, b'a'..=b'z' | b'A'..=b'Z' | b'_' | b'0'..=b'9' | b'-')
+    }
+
+    fn goes_on(c: u32) -> bool {
+        matches!(c, 0x5F | 0x2D) || Charset::goes_on(c)
+    }
+}
+
+// Rule 10: the characters of a number.
+pub struct Number;
+
+impl StopRule for Number {
+    ghost stop = { Stop.Number };
+
+    fn ascii_goes_on(b: u8) -> bool {
+        matches!(b, b'0'..=b'9' | b'.' | b'x' | b'X' | b'b' | b'B')
+    }
+
+    fn goes_on(c: u32) -> bool {
+        matches!(c, 0x2E | 0x78 | 0x58 | 0x62 | 0x42) || is_numeric(c)
+    }
+}
+
 // Rule 7: what a run takes.
 pub fn in_run(b: u8) -> bool
     ensures { result ≡ in_run b }
 {
-    match b {
-        b'=' => true,
-        b'!' => true,
-        b'>' => true,
-        b'<' => true,
-        _ => false,
-    }
-}
-
-// The rules that ask for a class, below 0x80.
-pub fn ascii_numerics(b: u8) -> bool
-    requires { b < 0x80 }
-    ensures { result ≡ goes_on pinned Stop.Numerics b }
-{
-    match b {
-        b'0'..=b'9' => true,
-        _ => false,
-    }
-}
-
-pub fn ascii_charset(b: u8) -> bool
-    requires { b < 0x80 }
-    ensures { result ≡ goes_on pinned Stop.Charset b }
-{
-    match b {
-        b'0'..=b'9' => true,
-        b'A'..=b'Z' => true,
-        b'a'..=b'z' => true,
-        _ => false,
-    }
-}
-
-// Letters first, then digits: so the most frequent take the fewest tests.
-pub fn ascii_word(b: u8) -> bool
-    requires { b < 0x80 }
-    ensures { result ≡ goes_on pinned Stop.Word b }
-{
-    if b'a' <= b {
-        return b <= b'z';
-    }
-    if b'A' <= b {
-        if b <= b'Z' {
-            return true;
-        }
-        return b == b'_';
-    }
-    if b'0' <= b {
-        return b <= b'9';
-    }
-    b == b'-'
-}
-
-// Digits first.
-pub fn ascii_number(b: u8) -> bool
-    requires { b < 0x80 }
-    ensures { result ≡ goes_on pinned Stop.Number b }
-{
-    if b < b'0' {
-        return b == b'.';
-    }
-    if b <= b'9' {
-        return true;
-    }
-    match b {
-        b'x' => true,
-        b'X' => true,
-        b'b' => true,
-        b'B' => true,
-        _ => false,
-    }
-}
-
-// The same for any character.
-fn alphanumeric(c: u32) -> bool
-    ensures { result ≡ goes_on pinned Stop.Charset c }
-{
-    if is_alphabetic(c) {
-        return true;
-    }
-    is_numeric(c)
-}
-
-fn in_word(c: u32) -> bool
-    ensures { result ≡ goes_on pinned Stop.Word c }
-{
-    match c {
-        0x5F => true,
-        0x2D => true,
-        _ => alphanumeric(c),
-    }
-}
-
-fn in_number(c: u32) -> bool
-    ensures { result ≡ goes_on pinned Stop.Number c }
-{
-    match c {
-        0x2E => true,
-        0x78 => true,
-        0x58 => true,
-        0x62 => true,
-        0x42 => true,
-        _ => is_numeric(c),
-    }
-}
-
-pub fn goes_on(stop: Stop, c: u32) -> bool
-    ensures { result ≡ goes_on pinned stop c }
-{
-    match stop {
-        Stop::Numerics => is_numeric(c),
-        Stop::Charset => alphanumeric(c),
-        Stop::Word => in_word(c),
-        Stop::Number => in_number(c),
-    }
+    matches!(b, b'=' | b'!' | b'>' | b'<')
 }

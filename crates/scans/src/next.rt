@@ -1,58 +1,47 @@
 // The first of two bytes that matter to a scan, by blocks of sixteen bytes that hold neither.
-ghost use Rattle.std.specs.Prelude.{◌≡◌, true, ◌+◌, ◌≤◌, length};
-ghost use Rattle.scans.specs.Next.{is_of, NoneOf, FirstOf};
+#![tactic(auto, unfolding(crate::specs::Next::is_of))]
+
+ghost use Rattle.std.specs.Prelude.{◌≡◌, ◌≤◌, ◌==◌, length, count_by};
+ghost use Rattle.std.specs.List.{position, take_while};
+ghost use Rattle.scans.specs.Next.{is_of, FoundOf};
 
 use chars::offset::Offset;
 
 fn is_of(c: u8, a: u8, b: u8) -> bool
     ensures { result ≡ is_of a b c }
 {
-    if c == a {
-        return true;
-    }
-    c == b
+    c == a || c == b
 }
 
 // Counted to the end and not up to the first: so sixteen bytes are compared at once.
-fn plain_block(text: &[u8], at: usize, a: u8, b: u8) -> bool
-    requires { at + 16 ≤ length text.now }
-    ensures { result ≡ true → NoneOf a b text.now at (at + 16) }
+fn is_plain(block: &[u8; 16], a: u8, b: u8) -> bool
+    ensures { result ≡ (count_by (is_of a b) block.now == 0) }
 {
-    let mut others: usize = 0;
-    let mut i = 0;
-    while i < 16 {
-        if !is_of(text[at + i], a, b) {
-            others += 1;
-        }
-        i += 1;
-    }
-    others == 16
+    block.iter().filter(|c| is_of(**c, a, b)).count() == 0
 }
 
-fn over_blocks(text: &[u8], from: usize, a: u8, b: u8) -> usize
-    requires { from ≤ length text.now }
-    ensures { (from ≤ result) × (result ≤ length text.now) × NoneOf a b text.now from result }
+// How many blocks from the front on hold neither.
+fn plain_blocks(blocks: &[[u8; 16]], a: u8, b: u8) -> usize
+    ensures { result ≡ length (take_while (λ block. count_by (is_of a b) block == 0) blocks.now) }
 {
-    let mut at = from;
-    while 16 <= text.len() - at {
-        if !plain_block(text, at, a, b) {
-            return at;
-        }
-        at += 16;
-    }
-    at
+    blocks
+        .iter()
+        .take_while(|block| is_plain(block, a, b))
+        .count()
 }
 
-pub fn next_of(text: &[u8], from: Offset, a: u8, b: u8) -> Offset
+fn position_of(text: &[u8], a: u8, b: u8) -> Option<usize>
+    ensures { result ≡ position (is_of a b) text.now }
+{
+    text.iter().position(|c| is_of(*c, a, b))
+}
+
+pub fn next_of(text: &[u8], from: Offset, a: u8, b: u8) -> Option<Offset>
     requires { from.0 ≤ length text.now }
-    ensures { FirstOf a b text.now from.0 result.0 }
+    ensures { FoundOf a b text.now from.0 result }
 {
-    let mut at = over_blocks(text, from.0, a, b);
-    while at < text.len() {
-        if is_of(text[at], a, b) {
-            return Offset(at);
-        }
-        at += 1;
-    }
-    Offset(at)
+    let (blocks, _) = text[from.0..].as_chunks::<16>();
+    let at = from.0 + 16 * plain_blocks(blocks, a, b);
+    let next = position_of(&text[at..], a, b)?;
+    Some(Offset(at + next))
 }

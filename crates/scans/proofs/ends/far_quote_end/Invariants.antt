@@ -1,12 +1,13 @@
 -- `scans::ends::far_quote_end` meets its contract. The invariant: the scan over bytes from here on ends at the same offset. Assumes nothing.
-use mathlib.Core.Path.{◌≡◌}
-use Prim.Native.Nat.{◌-◌}
-use lib.ListN.{length}
+use Rattle.std.proofs.Common.{◌≡◌, ◌≤◌, ◌-◌, length}
 use Rattle.scans.proofs.Quotes.{end}
 use Rattle.scans.proofs.ends.far_quote_end.Given as goal
 
-abbrev pub invariant-loop-at : goal.invariant-loop-at
-invariant-loop-at l = end l.text l.quote l.initial.at ≡ end l.text l.quote l.at
+abbrev pub invariant-loop-next : goal.invariant-loop-next
+invariant-loop-next l = record {
+  inside : l.at.0 ≤ length l.text;
+  same : end l.text l.quote l.initial.at.0 ≡ end l.text l.quote l.at.0;
+}
 
-abbrev pub decreases-loop-at : goal.decreases-loop-at
-decreases-loop-at l = length l.text - l.at
+abbrev pub decreases-loop-next : goal.decreases-loop-next
+decreases-loop-next l = length l.text - l.at.0
