@@ -1,6 +1,6 @@
 -- The exposed count one token at a time, and the answers of `sanitize`.
 -- exposed_end, _on             the count of the tokens from a place on
--- refuses, accept              the cases of the promise
+-- accept                       the promise of a list that is accepted
 -- Assumes nothing.
 use mathlib.Core.Path.{◌≡◌, sym, ap, ◌∙◌}
 use mathlib.Core.Bool.{Bool, true, false, cond}
@@ -43,22 +43,9 @@ module _ (ws : List ℕ) (n : ℕ) where
   abbrev after : Answer → List ℕ
   after a = afterwards a (laid (sanitized (tokens_in ws n)) ws) ws
 
-  answer_refused : (r : Refusal) → refusal r ≡ (check_count ws n then check_form (tokens_in ws n)) → refusal r ≡ sanitize_answer ws n
-  unfolding sanitize_answer
-  answer_refused r e =
-      sym (refusal-then r (done (exposed (sanitized (tokens_in ws n)) ∷ [])))
-      ∙ ap (λ (a : Answer). a then done (exposed (sanitized (tokens_in ws n)) ∷ [])) e
-
   answer_done : fine ≡ (check_count ws n then check_form (tokens_in ws n)) → done (exposed (sanitized (tokens_in ws n)) ∷ []) ≡ sanitize_answer ws n
   unfolding sanitize_answer
   answer_done e = ap (λ (a : Answer). a then done (exposed (sanitized (tokens_in ws n)) ∷ [])) e
-
-  pub refuses : (r : Refusal) → refusal r ≡ (check_count ws n then check_form (tokens_in ws n)) → Sanitizes ws n (Err r) ws
-  unfolding sanitize_buffer
-  refuses r e = record {
-    answer = answer_refused r e;
-    buffer = sym (refusal_after r (laid (sanitized (tokens_in ws n)) ws) ws) ∙ ap after (answer_refused r e);
-  }
 
   pub accept : fine ≡ (check_count ws n then check_form (tokens_in ws n)) → n ≤ room ws → (r : ℕ) (ws' : List ℕ) → SanitizesTokens ws n r ws' → Sanitizes ws n (Ok r) ws'
   unfolding sanitize_buffer
