@@ -16,14 +16,6 @@ loop-turn-init c =
     let a = c.args in
     (omega arith, left_same a.count a.slots.now, c.requires.1, runs_start a.count a.slots.now)
 
-pub turn_at-turn-requires : goal.turn_at-turn-requires
-turn_at-turn-requires c =
-    let loop = c.loop-turn in
-    (omega arith, omega (arith, loop.invariant.1.long), loop.invariant.2 loop.turn.next.0)
-
-pub loop-turn-smaller : goal.loop-turn-smaller
-loop-turn-smaller c = omega (arith, c.turn_at-turn.ensures.later)
-
 pub loop-turn-preserved : goal.loop-turn-preserved
 loop-turn-preserved c =
     let e = c.turn_at-turn.ensures in
