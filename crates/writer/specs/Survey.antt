@@ -7,7 +7,9 @@ use Rattle.tokens.specs.Kinds as kind
 use Rattle.tokens.specs.Slots.{tokens_in}
 use Rattle.tokens.specs.Formed.{malformed, first_place}
 use Rattle.tokens.specs.Texts.{text_of}
+use Rattle.writer.specs.declared.copy.Page.{Page}
 use Rattle.writer.specs.Written.{written, cuts}
+use Rattle.writer.specs.Promise.{Put}
 
 -- a token that may not be written: refusal 5 or 6
 unfoldable pub faulty : List ℕ → Slot → Bool
@@ -22,3 +24,9 @@ abbrev pub Surveyed : List ℕ → List ℕ → ℕ → Result ℕ Place → Typ
 Surveyed text ws n (Ok total) =
     (first_place (faulty text) (tokens_in ws n) ≡ n) × (total ≡ length (written text (tokens_in ws n)))
 Surveyed text ws n (Err at) = (at.0 < n) × (at.0 ≡ first_place (faulty text) (tokens_in ws n))
+
+-- a page that has grown by a text: it stands behind what was written, in the same buffer
+pub record Grown (before : Page) (s : List ℕ) (after : Page) : Type 0 where
+  pub put : Put before.out.now before.at s after.at after.out.now
+  pub long : length after.out.now ≡ length before.out.now
+  pub same : after.out.ghost_name ≡ before.out.ghost_name

@@ -3,80 +3,84 @@ ghost use Rattle.std.specs.Prelude.{[], ◌∷◌, ◌+◌, ◌≤◌, ◌<◌, 
 ghost use Rattle.chars.specs.Utf8.{encode};
 ghost use Rattle.tokens.specs.Kinds as kinds;
 ghost use Rattle.tokens.specs.Texts.{text_of};
-ghost use Rattle.writer.specs.Promise.{Put};
 
 use crate::marks::mark;
 use tokens::kind;
 use tokens::texts::fixed_text;
 
-// Copies src into out behind the first `at` bytes, and answers how many there are then.
-pub fn put(out: &mut [u8], at: usize, src: &[u8]) -> usize
-    requires { at + length src.now ≤ length out.old }
-    ensures { Put out.old at src.now result out.new }
-{
-    let end = at + src.len();
-    out[at..end].copy_from_slice(src);
-    end
+// The lent output, and how many bytes of it are written.
+#[derive(Drop)]
+pub struct Page<'a> {
+    pub out: &'a mut [u8],
+    pub at: usize,
 }
 
-// One byte.
-#[tactic(auto, using(crate::proofs::Puts::put_one))]
-pub fn put_byte(out: &mut [u8], at: usize, byte: u8) -> usize
-    requires { at < length out.old }
-    ensures { Put out.old at (byte ∷ []) result out.new }
-{
-    out[at] = byte;
-    at + 1
-}
+impl Page<'_> {
+    ghost use Rattle.writer.specs.Survey.{Grown};
 
-// A mark of one byte, or nothing for None.
-pub fn put_mark(out: &mut [u8], at: usize, kind: u32) -> usize
-    requires { (kind < kinds.Ellipsis) × (at + length (text_of kind) ≤ length out.old) }
-    ensures { Put out.old at (text_of kind) result out.new }
-{
-    match mark(kind) {
-        Some(byte) => put_byte(out, at, byte),
-        None => at,
+    // One byte.
+    pub fn push(&mut self, byte: u8)
+        requires { self.old.at < length self.old.out.now }
+        ensures { Grown self.old (byte ∷ []) self.new }
+    {
+        self.out[self.at] = byte;
+        self.at += 1;
     }
-}
 
-// The fixed text of a kind. Equal is the one frequent text of one byte that is no mark.
-#[tactic(auto, unfolding(tokens::specs::Texts::text_of, tokens::specs::Texts::texts))]
-pub fn put_fixed(out: &mut [u8], at: usize, kind: u32) -> usize
-    requires { at + length (text_of kind) ≤ length out.old }
-    ensures { Put out.old at (text_of kind) result out.new }
-{
-    if kind == kind::EQUAL {
-        return put_byte(out, at, b'=');
+    // Bytes, one after the other.
+    pub fn push_all(&mut self, bytes: &[u8])
+        requires { self.old.at + length bytes.now ≤ length self.old.out.now }
+        ensures { Grown self.old bytes.now self.new }
+    {
+        let end = self.at + bytes.len();
+        self.out[self.at..end].copy_from_slice(bytes);
+        self.at = end;
     }
-    put(out, at, fixed_text(kind))
-}
 
-// A scalar value in UTF-8, as RFC 3629 writes it.
-#[tactic(auto, using(chars::proofs::Whole::encode_1, chars::proofs::Whole::encode_2, chars::proofs::Whole::encode_3, chars::proofs::Whole::encode_4))]
-pub fn put_char(out: &mut [u8], at: usize, c: u32) -> usize
-    requires { (c < 0x110000) × (at + length (encode c) ≤ length out.old) }
-    ensures { Put out.old at (encode c) result out.new }
-{
-    if c < 0x80 {
-        return put(out, at, &[c as u8]);
+    // A mark of one byte, or nothing for None.
+    pub fn push_mark(&mut self, kind: u32)
+        requires { (kind < kinds.Ellipsis) × (self.old.at + length (text_of kind) ≤ length self.old.out.now) }
+        ensures { Grown self.old (text_of kind) self.new }
+    {
+        if let Some(byte) = mark(kind) {
+            self.push(byte);
+        }
     }
-    let last = (0x80 + c % 64) as u8;
-    if c < 0x800 {
-        return put(out, at, &[(0xC0 + c / 64) as u8, last]);
+
+    // The fixed text of a kind. Equal is the one frequent text of one byte that is no mark.
+    #[tactic(auto, unfolding(tokens::specs::Texts::text_of, tokens::specs::Texts::texts))]
+    pub fn push_fixed(&mut self, kind: u32)
+        requires { self.old.at + length (text_of kind) ≤ length self.old.out.now }
+        ensures { Grown self.old (text_of kind) self.new }
+    {
+        if kind == kind::EQUAL {
+            return self.push(b'=');
+        }
+        self.push_all(fixed_text(kind))
     }
-    let third = (0x80 + c / 64 % 64) as u8;
-    if c < 0x10000 {
-        return put(out, at, &[(0xE0 + c / 4096) as u8, third, last]);
-    }
-    put(
-        out,
-        at,
-        &[
+
+    // A scalar value in UTF-8, as RFC 3629 writes it.
+    #[tactic(auto, using(chars::proofs::Whole::encode_1, chars::proofs::Whole::encode_2, chars::proofs::Whole::encode_3, chars::proofs::Whole::encode_4))]
+    pub fn push_char(&mut self, c: u32)
+        requires { (c < 0x110000) × (self.old.at + length (encode c) ≤ length self.old.out.now) }
+        ensures { Grown self.old (encode c) self.new }
+    {
+        if c < 0x80 {
+            return self.push_all(&[c as u8]);
+        }
+        let last = (0x80 + c % 64) as u8;
+        if c < 0x800 {
+            return self.push_all(&[(0xC0 + c / 64) as u8, last]);
+        }
+        let third = (0x80 + c / 64 % 64) as u8;
+        if c < 0x10000 {
+            return self.push_all(&[(0xE0 + c / 4096) as u8, third, last]);
+        }
+        self.push_all(&[
             (0xF0 + c / 262144) as u8,
             (0x80 + c / 4096 % 64) as u8,
             third,
             last,
-        ],
-    )
+        ])
+    }
 }

@@ -5,10 +5,9 @@ ghost use Rattle.tokens.specs.Kinds as kinds;
 ghost use Rattle.tokens.specs.Formed.{well_formed};
 ghost use Rattle.tokens.specs.Texts.{text_of};
 ghost use Rattle.writer.specs.Written.{slice_of, token_text};
-ghost use Rattle.writer.specs.Promise.{Put};
-ghost use Rattle.writer.specs.Survey.{beside};
+ghost use Rattle.writer.specs.Survey.{beside, Grown};
 
-use crate::copy::{put, put_byte, put_char, put_fixed, put_mark};
+use crate::copy::Page;
 use crate::marks::quote;
 use chars::offset::Offset;
 use chars::utf8::width_of;
@@ -62,35 +61,36 @@ pub fn token_len(text: &[u8], slot: Slot) -> usize
 }
 
 // Both quotes, and the slice between them.
-fn put_quoted(out: &mut [u8], at: usize, text: &[u8], slot: Slot) -> usize
+fn put_quoted(page: &mut Page, text: &[u8], slot: Slot)
     requires backticked_le_kind { (kinds.Backticked ≤ slot.kind) × (slot.kind ≤ kinds.SingleQuoted) }
-    requires kind_in_bounds { at + length (text_of slot.kind ++ slice_of text.now slot ++ text_of slot.kind) ≤ length out.old }
-    ensures { Put out.old at (text_of slot.kind ++ slice_of text.now slot ++ text_of slot.kind) result out.new }
+    requires kind_in_bounds { page.old.at + length (text_of slot.kind ++ slice_of text.now slot ++ text_of slot.kind) ≤ length page.old.out.now }
+    ensures { Grown page.old (text_of slot.kind ++ slice_of text.now slot ++ text_of slot.kind) page.new }
 {
     let mark = quote(slot.kind);
-    let opened = put_byte(out, at, mark);
-    let inside = put(out, opened, slice_of(text, slot));
-    put_byte(out, inside, mark)
+    page.push(mark);
+    page.push_all(slice_of(text, slot));
+    // The same mark closes it.
+    page.push(mark);
 }
 
 // A token's text. The marks first, which are the most frequent.
 #[tactic(auto, using(crate::proofs::ByKind::text_charset, crate::proofs::ByKind::text_other, crate::proofs::ByKind::text_slice, crate::proofs::ByKind::text_unknown, crate::proofs::ByKind::text_quoted, crate::proofs::ByKind::text_fixed, crate::proofs::ByKind::formed_scalar, crate::proofs::Puts::put_as))]
-pub fn put_token(out: &mut [u8], at: usize, text: &[u8], slot: Slot) -> usize
-    requires { (well_formed slot ≡ true) × (at + length (token_text text.now slot) ≤ length out.old) }
-    ensures { Put out.old at (token_text text.now slot) result out.new }
+pub fn put_token(page: &mut Page, text: &[u8], slot: Slot)
+    requires { (well_formed slot ≡ true) × (page.old.at + length (token_text text.now slot) ≤ length page.old.out.now) }
+    ensures { Grown page.old (token_text text.now slot) page.new }
 {
     let kind = slot.kind;
     if kind < kind::ELLIPSIS {
-        return put_mark(out, at, kind);
+        return page.push_mark(kind);
     }
     match kind {
-        kind::BACKTICKED..=kind::SINGLE_QUOTED => put_quoted(out, at, text, slot),
+        kind::BACKTICKED..=kind::SINGLE_QUOTED => put_quoted(page, text, slot),
         kind::CHARSET => {
-            let marked = put_byte(out, at, b'_');
-            put(out, marked, slice_of(text, slot))
+            page.push(b'_');
+            page.push_all(slice_of(text, slot));
         }
-        kind::OTHER | kind::NUMERIC..=kind::NUMBERED_PLACEHOLDER => put(out, at, slice_of(text, slot)),
-        kind::UNKNOWN => put_char(out, at, slot.first),
-        _ => put_fixed(out, at, kind),
+        kind::OTHER | kind::NUMERIC..=kind::NUMBERED_PLACEHOLDER => page.push_all(slice_of(text, slot)),
+        kind::UNKNOWN => page.push_char(slot.first),
+        _ => page.push_fixed(kind),
     }
 }
