@@ -1,7 +1,6 @@
 -- The exposed count one token at a time, and the answers of `sanitize`.
 -- exposed_end, _on             the count of the tokens from a place on
--- one_at_most, value_low       what one token counts for
--- refuses, accept              the cases of the promise
+-- accept                       the promise of a list that is accepted
 -- Assumes nothing.
 use mathlib.Core.Path.{◌≡◌, sym, ap, ◌∙◌}
 use mathlib.Core.Bool.{Bool, true, false, cond}
@@ -11,7 +10,6 @@ use native.Mathlib.Omega.{arith}
 use native.Mathlib.Numerals.{add-one}
 use lib.ListN.{length, drop, drop_of_length-le}
 use lib.Seq.{drop-cons}
-use borrow.Author.Tests.{ne_eqb}
 use Rattle.tokens.specs.Kinds as kind
 use Rattle.tokens.specs.Slots.{bare, room, tokens_in, laid}
 use Rattle.tokens.specs.Answers.{Answer, done, refusal}
@@ -20,7 +18,7 @@ use Rattle.tokens.specs.declared.slot.Slot.{Slot}
 use Rattle.tokens.specs.declared.refusal.Refusal.{Refusal}
 use Rattle.tokens.proofs.Checking.{refusal-then, refusal_after}
 use Rattle.tokens.proofs.Storing.{left_laid}
-use Rattle.sanitizer.specs.declared.Sanitized.TheVariants.{Done, Refused}
+use Rattle.std.specs.Prelude.{Ok, Err}
 use Rattle.sanitizer.specs.Scans.{kind_at}
 use Rattle.sanitizer.specs.Run.{sanitized}
 use Rattle.sanitizer.specs.Exposed.{exposed, is_exposed}
@@ -40,36 +38,16 @@ module _ (ts : List Slot) (i : ℕ) where
       go true = omega arith
       go false = omega arith
 
-pub one_at_most : (b : Bool) → cond b 1 0 ≤ 1
-one_at_most true = omega arith
-one_at_most false = omega arith
-
-pub value_low : (k : ℕ) → (k ≡ kind.SingleQuoted → ⊥) → (k ≡ kind.Numeric → ⊥) → ◌≡◌ {A = ℕ} (cond (is_exposed k) 1 0) 0
-value_low k a b = rw (ne_eqb k kind.SingleQuoted a, ne_eqb k kind.Numeric b)
-
 -- ---- the answers
 module _ (ws : List ℕ) (n : ℕ) where
   abbrev after : Answer → List ℕ
   after a = afterwards a (laid (sanitized (tokens_in ws n)) ws) ws
 
-  answer_refused : (r : Refusal) → refusal r ≡ (check_count ws n then check_form (tokens_in ws n)) → refusal r ≡ sanitize_answer ws n
-  unfolding sanitize_answer
-  answer_refused r e =
-      sym (refusal-then r (done (exposed (sanitized (tokens_in ws n)) ∷ [])))
-      ∙ ap (λ (a : Answer). a then done (exposed (sanitized (tokens_in ws n)) ∷ [])) e
-
   answer_done : fine ≡ (check_count ws n then check_form (tokens_in ws n)) → done (exposed (sanitized (tokens_in ws n)) ∷ []) ≡ sanitize_answer ws n
   unfolding sanitize_answer
   answer_done e = ap (λ (a : Answer). a then done (exposed (sanitized (tokens_in ws n)) ∷ [])) e
 
-  pub refuses : (r : Refusal) → refusal r ≡ (check_count ws n then check_form (tokens_in ws n)) → Sanitizes ws n (Refused r) ws
-  unfolding sanitize_buffer
-  refuses r e = record {
-    answer = answer_refused r e;
-    buffer = sym (refusal_after r (laid (sanitized (tokens_in ws n)) ws) ws) ∙ ap after (answer_refused r e);
-  }
-
-  pub accept : fine ≡ (check_count ws n then check_form (tokens_in ws n)) → n ≤ room ws → (r : ℕ) (ws' : List ℕ) → SanitizesTokens ws n r ws' → Sanitizes ws n (Done r) ws'
+  pub accept : fine ≡ (check_count ws n then check_form (tokens_in ws n)) → n ≤ room ws → (r : ℕ) (ws' : List ℕ) → SanitizesTokens ws n r ws' → Sanitizes ws n (Ok r) ws'
   unfolding sanitize_buffer
   accept e h r ws' d = record {
     answer = ap (λ (m : ℕ). done (m ∷ [])) d.count ∙ answer_done e;

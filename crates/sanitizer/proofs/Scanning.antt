@@ -1,17 +1,17 @@
 -- The definitions of Scans.antt one token at a time: a premise for each test, which `omega arith` finds at a need.
 -- kind_tokens                        the kind at a place is the one in its slot
 -- before_is, kind_past               the kind before a place, and past the end
--- dotted_before, _after, -not        whether a Dot stands beside a place
+-- dotted_before, _after              whether a Dot stands beside a place
 -- drop-kinds, drop_end               the kinds from a place on
--- close_end, _here, _here', _on      the scan to the close
+-- close_end, _here, _past, _on       the scan to the close
 -- rows_end, _close, _open            the scan of the rows, inside and outside
 -- rows_inside                        inside
 -- rows_comma, _space, _stop          outside
 -- row_ways                            the cases of the rows' scan
 -- close_ge, rows_ge                  a scan's answer is at its place or later
 -- Assumes nothing.
-use mathlib.Core.Path.{◌≡◌, refl, ap, ◌∙◌}
-use mathlib.Core.Bool.{Bool, true, false, cond}
+use mathlib.Core.Path.{◌≡◌, refl, ap, sym, ◌∙◌}
+use mathlib.Core.Bool.{Bool, true, false, cond, ◌||◌}
 use mathlib.Core.List.{List, [], ◌∷◌}
 use Prim.Native.Nat.{ℕ, zero, suc, ◌+◌, ◌≤◌, ◌<◌, ◌-◌}
 use native.Mathlib.Omega.{arith}
@@ -49,14 +49,11 @@ module _ (ts : List Slot) (p : ℕ) where
   kind_past h = ap kind_of (get_or-eq_default ts (bare kind.None) {n = p} h)
 
   -- ---- a Dot beside a place
-  pub dotted_before : kind_before ts p ≡ kind.Dot → dotted ts p ≡ true
-  dotted_before h = rw (eq-eqb (kind_before ts p) kind.Dot h)
+  pub dotted_before : {before : Bool} → before ≡ eqb (kind_before ts p) kind.Dot → before ≡ true → before ≡ dotted ts p
+  dotted_before b e = e ∙ sym (ap (λ (x : Bool). x || eqb (kind_at ts (p + 1)) kind.Dot) (sym b ∙ e))
 
-  pub dotted_after : (kind_before ts p ≡ kind.Dot → ⊥) → dotted ts p ≡ eqb (kind_at ts (p + 1)) kind.Dot
-  dotted_after h = rw (ne_eqb (kind_before ts p) kind.Dot h)
-
-  pub dotted-not : (kind_before ts p ≡ kind.Dot → ⊥) → (kind_at ts (p + 1) ≡ kind.Dot → ⊥) → dotted ts p ≡ false
-  dotted-not g h = rw (ne_eqb (kind_before ts p) kind.Dot g, ne_eqb (kind_at ts (p + 1)) kind.Dot h)
+  pub dotted_after : {before : Bool} → before ≡ eqb (kind_before ts p) kind.Dot → before ≡ false → dotted ts p ≡ eqb (kind_at ts (p + 1)) kind.Dot
+  dotted_after b e = ap (λ (x : Bool). x || eqb (kind_at ts (p + 1)) kind.Dot) (sym b ∙ e)
 
   -- ---- the kinds from a place on
   pub drop-kinds : p < length ts → drop p (kinds ts) ≡ kind_at ts p ∷ drop (suc p) (kinds ts)
@@ -72,13 +69,13 @@ module _ (ts : List Slot) (p : ℕ) where
   unfolding close_from
   close_end h = rw (drop_end h)
 
-  pub close_here : p < length ts → (kind_at ts p ≡ kind.ParentheseClose) → close_at ts p ≡ p
+  pub close_here : p < length ts → is_close (kind_at ts p) ≡ true → close_at ts p ≡ p
   unfolding close_from
-  close_here h e = rw (drop-kinds h, eq-eqb (kind_at ts p) kind.ParentheseClose e)
+  close_here h e = rw (drop-kinds h, e)
 
-  pub close_here' : p < length ts → (kind_at ts p ≡ kind.SquareBracketClose) → close_at ts p ≡ p
+  pub close_past : p < length ts → is_close (kind_at ts p) ≡ false → close_at ts p ≡ close_at ts (p + 1)
   unfolding close_from
-  close_here' h e = rw (drop-kinds h, ne_eqb (kind_at ts p) kind.ParentheseClose (omega arith), eq-eqb (kind_at ts p) kind.SquareBracketClose e)
+  close_past h e = rw (drop-kinds h, e, add-one p)
 
   pub close_on : p < length ts → (kind_at ts p ≡ kind.ParentheseClose → ⊥) → (kind_at ts p ≡ kind.SquareBracketClose → ⊥) → close_at ts p ≡ close_at ts (p + 1)
   unfolding close_from

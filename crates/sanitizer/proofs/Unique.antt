@@ -17,8 +17,7 @@ use Rattle.tokens.specs.declared.refusal.Refusal.{Refusal}
 use Rattle.tokens.specs.declared.refusal.Refusal.TheVariants.{TextTooLong, NotUtf8, NoRoomTokens, BadCount, BadToken, CutChar, NoRoomOut}
 use Rattle.tokens.proofs.Storing.{left_laid}
 use Rattle.tokens.proofs.Back.{back, back_refusal}
-use Rattle.sanitizer.specs.declared.Sanitized.{Sanitized}
-use Rattle.sanitizer.specs.declared.Sanitized.TheVariants.{Done, Refused}
+use Rattle.std.specs.Prelude.{Result, Ok, Err}
 use Rattle.sanitizer.specs.Promise.{paper, Sanitizes, SanitizesTokens}
 use Rattle.sanitizer.proofs.sanitize.Kinds as kinds
 use Rattle.sanitizer.proofs.sanitize.Reads as reads
@@ -26,29 +25,29 @@ use Rattle.sanitizer.proofs.sanitize_tokens.Kinds as tokens-kinds
 use Rattle.sanitizer.proofs.sanitize_tokens.Reads as tokens-reads
 
 -- an answer read back from the paper's numbers
-read : Answer → Sanitized
-read (done ns) = Done (get_or ns 0 0)
-read (refused k d) = Refused (back (refused k d))
+read : Answer → Result ℕ Refusal
+read (done ns) = Ok (get_or ns 0 0)
+read (refused k d) = Err (back (refused k d))
 
-read_refusal : (r : Refusal) → read (refusal r) ≡ Refused r
+read_refusal : (r : Refusal) → read (refusal r) ≡ Err r
 unfolding read
-read_refusal (TextTooLong n) = ap Refused (back_refusal (TextTooLong n))
-read_refusal (NotUtf8 at) = ap Refused (back_refusal (NotUtf8 at))
-read_refusal (NoRoomTokens n) = ap Refused (back_refusal (NoRoomTokens n))
-read_refusal (BadCount n) = ap Refused (back_refusal (BadCount n))
-read_refusal (BadToken p) = ap Refused (back_refusal (BadToken p))
-read_refusal (CutChar p) = ap Refused (back_refusal (CutChar p))
-read_refusal (NoRoomOut n) = ap Refused (back_refusal (NoRoomOut n))
+read_refusal (TextTooLong n) = ap Err (back_refusal (TextTooLong n))
+read_refusal (NotUtf8 at) = ap Err (back_refusal (NotUtf8 at))
+read_refusal (NoRoomTokens n) = ap Err (back_refusal (NoRoomTokens n))
+read_refusal (BadCount n) = ap Err (back_refusal (BadCount n))
+read_refusal (BadToken p) = ap Err (back_refusal (BadToken p))
+read_refusal (CutChar p) = ap Err (back_refusal (CutChar p))
+read_refusal (NoRoomOut n) = ap Err (back_refusal (NoRoomOut n))
 
-read_paper : (r : Sanitized) → read (paper r) ≡ r
+read_paper : (r : Result ℕ Refusal) → read (paper r) ≡ r
 unfolding read
-read_paper (Done n) = refl
-read_paper (Refused r) = read_refusal r
+read_paper (Ok n) = refl
+read_paper (Err r) = read_refusal r
 
-pub paper_one : {r s : Sanitized} → paper r ≡ paper s → r ≡ s
+pub paper_one : {r s : Result ℕ Refusal} → paper r ≡ paper s → r ≡ s
 paper_one {r} {s} e = sym (read_paper r) ∙ ap read e ∙ read_paper s
 
-pub unique : {ws : List ℕ} {n : ℕ} {r s : Sanitized} {a b : List ℕ} → Sanitizes ws n r a → Sanitizes ws n s b → (r ≡ s) × (a ≡ b)
+pub unique : {ws : List ℕ} {n : ℕ} {r s : Result ℕ Refusal} {a b : List ℕ} → Sanitizes ws n r a → Sanitizes ws n s b → (r ≡ s) × (a ≡ b)
 unique p q = (paper_one (p.answer ∙ sym q.answer), p.buffer ∙ sym q.buffer)
 
 -- for whatever lifetimes and arguments, two results and two ways to leave the buffer that both meet the contract are one result and one content

@@ -9,36 +9,27 @@ ghost use Rattle.sanitizer.specs.Promise.{Sanitizes, SanitizesTokens};
 
 use arms::State;
 use exposed::exposed;
-use tokens::check::{Checked, check_list};
+use tokens::check::check_list;
 use tokens::place::Place;
 use tokens::refusal::Refusal;
-use turn::turn_at;
+use turn::{Turn, turn_at};
 
 pub mod arms;
 pub mod exposed;
 pub mod scan;
 pub mod turn;
 
-// The exposed count, or why the list is refused.
-#[derive(Clone, Copy)]
-pub enum Sanitized {
-    Done(usize),
-    Refused(Refusal),
-}
-
 // All turns, from the first place on.
 fn pass(slots: &mut [u32], count: usize)
     requires { (count ≤ room slots.old) × Known (tokens_in slots.old count) }
     ensures { Left count slots.old slots.new (sanitized (tokens_in slots.old count)) }
 {
-    let mut at = 0;
-    let mut state = State::Default;
-    while at < count {
-        let turn = turn_at(slots, count, Place(at), state);
-        let next = turn.next;
-        at = next.0;
-        let after = turn.state;
-        state = after;
+    let mut turn = Turn {
+        next: Place(0),
+        state: State::Default,
+    };
+    while turn.next.0 < count {
+        turn = turn_at(slots, count, turn.next, turn.state);
     }
 }
 
@@ -51,13 +42,11 @@ pub fn sanitize_tokens(slots: &mut [u32], count: usize) -> usize
     exposed(slots, count)
 }
 
-// Sanitises the first `count` slots of a lent buffer. A refusal changes nothing.
-pub fn sanitize(slots: &mut [u32], count: usize) -> Sanitized
+// Sanitises the first `count` slots of a lent buffer: the exposed count, or why the list is refused. A refusal changes nothing.
+#[tactic(auto, unfolding(crate::specs::Promise::sanitize_answer, crate::specs::Promise::sanitize_buffer))]
+pub fn sanitize(slots: &mut [u32], count: usize) -> Result<usize, Refusal>
     ensures { Sanitizes slots.old count result slots.new }
 {
-    let of_list = check_list(slots, count);
-    if let Checked::Refused(why) = of_list {
-        return Sanitized::Refused(why);
-    }
-    Sanitized::Done(sanitize_tokens(slots, count))
+    check_list(slots, count)?;
+    Ok(sanitize_tokens(slots, count))
 }

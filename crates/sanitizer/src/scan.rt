@@ -2,7 +2,7 @@
 // the end of the rows of a collapse, apart from what they blank. Document 01, "sanitizer.rs"; specs/Scans.antt.
 ghost use Rattle.std.specs.Prelude.{◌≡◌, true, ◌≤◌, ◌<◌};
 ghost use Rattle.tokens.specs.Slots.{room, slot_at, tokens_in};
-ghost use Rattle.sanitizer.specs.Scans.{close_at, rows_at};
+ghost use Rattle.sanitizer.specs.Scans.{is_close, close_at, rows_at};
 ghost use Rattle.sanitizer.specs.Run.{dotted};
 
 use tokens::kind;
@@ -14,8 +14,7 @@ pub fn kind_at(slots: &[u32], place: Place) -> u32
     requires { place.0 < room slots.now }
     ensures { result ≡ (slot_at slots.now place.0).kind }
 {
-    let slot = slot_at(slots, place);
-    slot.kind
+    slot_at(slots, place).kind
 }
 
 // Whether a Dot stands directly before or after a place. Place 0 has none before it, and the last none after.
@@ -24,15 +23,15 @@ pub fn is_dotted(slots: &[u32], count: usize, place: Place) -> bool
     ensures { result ≡ dotted (tokens_in slots.now count) place.0 }
 {
     let at = place.0;
-    if at != 0 {
-        if kind_at(slots, Place(at - 1)) == kind::DOT {
-            return true;
-        }
-    }
-    if at + 1 < count {
-        return kind_at(slots, Place(at + 1)) == kind::DOT;
-    }
-    false
+    (at != 0 && kind_at(slots, Place(at - 1)) == kind::DOT)
+        || (at + 1 < count && kind_at(slots, Place(at + 1)) == kind::DOT)
+}
+
+// Whether a kind is a close of either sort.
+fn is_close(kind: u32) -> bool
+    ensures { result ≡ is_close kind }
+{
+    kind == kind::PARENTHESE_CLOSE || kind == kind::SQUARE_BRACKET_CLOSE
 }
 
 // The place of the first close of either sort from a place on; the count, where there is none.
@@ -40,15 +39,12 @@ pub fn close_from(slots: &[u32], count: usize, from: Place) -> Place
     requires { (from.0 ≤ count) × (count ≤ room slots.now) }
     ensures { (result.0 ≡ close_at (tokens_in slots.now count) from.0) × (from.0 ≤ result.0) × (result.0 ≤ count) }
 {
-    let mut at = from.0;
-    while at < count {
-        match kind_at(slots, Place(at)) {
-            kind::PARENTHESE_CLOSE => return Place(at),
-            kind::SQUARE_BRACKET_CLOSE => return Place(at),
-            _ => at += 1,
+    for at in from.0..count {
+        if is_close(kind_at(slots, Place(at))) {
+            return Place(at);
         }
     }
-    Place(at)
+    Place(count)
 }
 
 // The place after the stretch that a collapse blanks, from the place after its first open on.

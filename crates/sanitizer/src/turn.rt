@@ -6,7 +6,7 @@ ghost use Rattle.sanitizer.specs.Scans.{kind_at};
 ghost use Rattle.sanitizer.specs.Run.{turn};
 ghost use Rattle.sanitizer.specs.Leaves.{Turned, Blanked, Covered, Uncommented};
 
-use crate::arms::{Does, State, choose};
+use crate::arms::{Arm, Does, State, choose};
 use crate::scan::{close_from, is_dotted, kind_at, rows_from};
 use tokens::kind;
 use tokens::place::Place;
@@ -32,11 +32,8 @@ fn blank(slots: &mut [u32], from: Place, to: Place)
     requires { (from.0 ≤ to.0) × (to.0 ≤ room slots.old) }
     ensures { Blanked slots.old slots.new from.0 to.0 }
 {
-    let mut at = from.0;
-    let end = to.0;
-    while at < end {
+    for at in from.0..to.0 {
         replace(slots, Place(at), kind::NONE);
-        at += 1;
     }
 }
 
@@ -45,9 +42,8 @@ fn one_for(slots: &mut [u32], place: Place, to: Place, kind: u32)
     requires { (place.0 < to.0) × (to.0 ≤ room slots.old) }
     ensures { Covered kind slots.old slots.new place.0 to.0 }
 {
-    let at = place.0;
     replace(slots, place, kind);
-    blank(slots, Place(at + 1), to);
+    blank(slots, Place(place.0 + 1), to);
 }
 
 // Blanks a comment, and a Space directly before it. Place 0 has none before it.
@@ -57,13 +53,9 @@ fn remove_comment(slots: &mut [u32], place: Place)
 {
     let at = place.0;
     replace(slots, place, kind::NONE);
-    if at == 0 {
-        return;
+    if at != 0 && kind_at(slots, Place(at - 1)) == kind::SPACE {
+        replace(slots, Place(at - 1), kind::NONE);
     }
-    if kind_at(slots, Place(at - 1)) != kind::SPACE {
-        return;
-    }
-    replace(slots, Place(at - 1), kind::NONE);
 }
 
 // One turn at a place, in a state.
@@ -71,10 +63,8 @@ pub fn turn_at(slots: &mut [u32], count: usize, place: Place, state: State) -> T
     requires { (place.0 < count) × (count ≤ room slots.old) × (kind_at (tokens_in slots.old count) place.0 ≤ kinds.Unknown) }
     ensures { Turned count slots.old slots.new place.0 (turn (tokens_in slots.old count) place.0 state) result.next.0 result.state }
 {
-    let at = place.0;
-    let next = Place(at + 1);
-    let arm = choose(state, kind_at(slots, place));
-    let does = arm.1;
+    let next = Place(place.0 + 1);
+    let Arm(_, does) = choose(state, kind_at(slots, place));
     match does {
         Does::Stay => Turn { next, state },
         Does::Go(state) => Turn { next, state },
@@ -83,10 +73,9 @@ pub fn turn_at(slots: &mut [u32], count: usize, place: Place, state: State) -> T
             Turn { next, state }
         }
         Does::ReplaceUnlessDotted => {
-            if is_dotted(slots, count, place) {
-                return Turn { next, state };
+            if !is_dotted(slots, count, place) {
+                replace(slots, place, kind::PLACEHOLDER);
             }
-            replace(slots, place, kind::PLACEHOLDER);
             Turn { next, state }
         }
         Does::ReplaceToClose => {

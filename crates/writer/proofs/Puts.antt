@@ -4,6 +4,7 @@
 -- put_one     one byte is stored
 -- put_then    one copy behind another
 -- put_onto    a copy behind a text that lies over the front
+-- grown_as, grown_then   the same of a page
 -- three_length   the length of three parts
 -- Assumes nothing.
 use mathlib.Core.Path.{◌≡◌, refl, ap, sym, ◌∙◌}
@@ -14,7 +15,9 @@ use native.Mathlib.Numerals.{add-one}
 use lib.ListN.{length, take, drop, set, length-append, take-append-drop}
 use lib.Seq.{set_split, take-append_seam, drop-append-add, drop-drop, length-take-le, take_at}
 use Rattle.writer.specs.Written.{onto}
+use Rattle.writer.specs.declared.copy.Page.{Page}
 use Rattle.writer.specs.Promise.{Put}
+use Rattle.writer.specs.Survey.{Grown}
 
 module _ {out : List ℕ} {at : ℕ} {s t : List ℕ} {r : ℕ} {out' : List ℕ} where
   pub put_as : t ≡ s → Put out at s r out' → Put out at t r out'
@@ -63,3 +66,12 @@ module _ (w out : List ℕ) {s : List ℕ} {r : ℕ} {out' : List ℕ} where
 
 pub three_length : (a b c : List ℕ) → length (a ++ b ++ c) ≡ length a + length b + length c
 three_length a b c = simp length-append
+
+-- a page that grows, and grows on
+module _ {p q : Page} {s t : List ℕ} where
+  pub grown_as : t ≡ s → Grown p s q → Grown p t q
+  grown_as e g = rw e g
+
+module _ {p q r : Page} {s t : List ℕ} where
+  pub grown_then : p.at ≤ length p.out.now → Grown p s q → Grown q t r → Grown p (s ++ t) r
+  grown_then h g k = record { put = put_then h g.put k.put; long = k.long ∙ g.long; same = k.same ∙ g.same }

@@ -1,10 +1,13 @@
--- What the functions of this crate promise each other: which tokens may not be written, and one pass over a token list. The writer's own promise is Promise.antt. Assumes nothing.
+-- What the functions of this crate promise each other: which tokens may not be written, one pass over a token list, and a page that grows. The
+-- writer's own promise is Promise.antt. Assumes nothing.
 use Rattle.std.specs.Prelude.{◌≡◌, Bool, Result, Ok, Err, ◌||◌, List, ℕ, ◌<◌, length}
 use Rattle.tokens.specs.declared.place.Place.{Place}
 use Rattle.tokens.specs.declared.slot.Slot.{Slot}
 use Rattle.tokens.specs.Slots.{tokens_in}
 use Rattle.tokens.specs.Formed.{malformed, first_place}
+use Rattle.writer.specs.declared.copy.Page.{Page}
 use Rattle.writer.specs.Written.{written, cuts}
+use Rattle.writer.specs.Promise.{Put}
 
 -- a token that may not be written: refusal 5 or 6
 unfoldable pub faulty : List ℕ → Slot → Bool
@@ -15,3 +18,9 @@ abbrev pub Surveyed : List ℕ → List ℕ → ℕ → Result ℕ Place → Typ
 Surveyed text ws n (Ok total) =
     (first_place (faulty text) (tokens_in ws n) ≡ n) × (total ≡ length (written text (tokens_in ws n)))
 Surveyed text ws n (Err at) = (at.0 < n) × (at.0 ≡ first_place (faulty text) (tokens_in ws n))
+
+-- a page that has grown by a text: it stands behind what was written, in the same buffer
+pub record Grown (before : Page) (s : List ℕ) (after : Page) : Type 0 where
+  pub put : Put before.out.now before.at s after.at after.out.now
+  pub long : length after.out.now ≡ length before.out.now
+  pub same : after.out.ghost_name ≡ before.out.ghost_name

@@ -9,6 +9,7 @@ ghost use Rattle.tokens.specs.Formed.{first_place, malformed};
 ghost use Rattle.writer.specs.Written.{written, onto};
 ghost use Rattle.writer.specs.Promise.{Writes};
 
+use crate::copy::Page;
 use crate::survey::{refusal_at, survey};
 use crate::token::{put_token, token_len};
 use tokens::check::{check_count, check_text};
@@ -39,9 +40,9 @@ pub fn fill(text: &[u8], slots: &[u32], count: usize, out: &mut [u8])
     requires count_in_bounds { length (written text.now (tokens_in slots.now count)) ≤ length out.old }
     ensures { out.new ≡ onto (written text.now (tokens_in slots.now count)) out.old }
 {
-    let mut at = 0;
+    let mut page = Page { out, at: 0 };
     for i in 0..count {
-        at = put_token(out, at, text, slot_at(slots, Place(i)));
+        put_token(&mut page, text, slot_at(slots, Place(i)));
     }
 }
 

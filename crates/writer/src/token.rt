@@ -3,9 +3,9 @@ ghost use Rattle.std.specs.Prelude.{true, ◌≡◌, ◌+◌, ◌≤◌, length}
 ghost use Rattle.tokens.specs.Answers.{limit};
 ghost use Rattle.tokens.specs.Formed.{well_formed};
 ghost use Rattle.writer.specs.Written.{slice_of, token_text};
-ghost use Rattle.writer.specs.Promise.{Put};
+ghost use Rattle.writer.specs.Survey.{Grown};
 
-use crate::copy::{put, put_char};
+use crate::copy::Page;
 use chars::offset::Offset;
 use chars::utf8::width_of;
 use tokens::content::buffer_content;
@@ -47,22 +47,22 @@ pub fn token_len(text: &[u8], slot: Slot) -> usize
 }
 
 // A token's text.
-pub fn put_token(out: &mut [u8], at: usize, text: &[u8], slot: Slot) -> usize
-    requires { (well_formed slot ≡ true) × (at + length (token_text text.now slot) ≤ length out.old) }
-    ensures { Put out.old at (token_text text.now slot) result out.new }
+pub fn put_token(page: &mut Page, text: &[u8], slot: Slot)
+    requires { (well_formed slot ≡ true) × (page.old.at + length (token_text text.now slot) ≤ length page.old.out.now) }
+    ensures { Grown page.old (token_text text.now slot) page.new }
 {
     let mark = fixed_text(slot.kind);
     if is_quoted(slot.kind) {
-        let opened = put(out, at, mark);
-        let inside = put(out, opened, slice_of(text, slot));
-        return put(out, inside, mark);
+        page.push(mark);
+        page.push(slice_of(text, slot));
+        // The same mark closes it.
+        page.push(mark);
+    } else if carries_offsets(slot.kind) {
+        page.push(mark);
+        page.push(slice_of(text, slot));
+    } else if slot.kind == UNKNOWN {
+        page.push_char(slot.first);
+    } else {
+        page.push(mark);
     }
-    if carries_offsets(slot.kind) {
-        let marked = put(out, at, mark);
-        return put(out, marked, slice_of(text, slot));
-    }
-    if slot.kind == UNKNOWN {
-        return put_char(out, at, slot.first);
-    }
-    put(out, at, mark)
 }

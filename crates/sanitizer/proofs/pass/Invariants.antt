@@ -6,9 +6,9 @@ use Rattle.sanitizer.specs.Run.{sanitized, Known}
 use Rattle.sanitizer.proofs.Turning.{Runs}
 use Rattle.sanitizer.proofs.pass.Given as goal
 
-abbrev pub invariant-loop-at : goal.invariant-loop-at
-invariant-loop-at l =
-    (l.at ≤ l.count + 1) × Left l.count l.initial.slots l.slots (tokens_in l.slots l.count) × Known (tokens_in l.slots l.count) × Runs l.count l.slots l.at l.state (sanitized (tokens_in l.initial.slots l.count))
+abbrev pub invariant-loop-turn : goal.invariant-loop-turn
+invariant-loop-turn l =
+    (l.turn.next.0 ≤ l.count + 1) × Left l.count l.initial.slots l.slots (tokens_in l.slots l.count) × Known (tokens_in l.slots l.count) × Runs l.count l.slots l.turn.next.0 l.turn.state (sanitized (tokens_in l.initial.slots l.count))
 
-abbrev pub decreases-loop-at : goal.decreases-loop-at
-decreases-loop-at l = l.count - l.at
+abbrev pub decreases-loop-turn : goal.decreases-loop-turn
+decreases-loop-turn l = l.count - l.turn.next.0

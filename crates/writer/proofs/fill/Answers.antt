@@ -15,10 +15,10 @@ use Rattle.writer.proofs.fill.Goals as goal
 
 pub loop-i-init : goal.loop-i-init
 unfolding written tokens_from
-loop-i-init c = (refl, refl, refl)
+loop-i-init c = (refl, refl, refl, refl)
 
-pub put_token-at-requires : goal.put_token-at-requires
-put_token-at-requires c =
+pub put_token-requires : goal.put_token-requires
+put_token-requires c =
     let x = c.args in
     let i = c.loop-i.i in
     let ts = tokens_in x.slots.now x.count in
@@ -31,5 +31,5 @@ put_token-at-requires c =
 pub loop-i-preserved : goal.loop-i-preserved
 loop-i-preserved c =
     let x = c.args in
-    let m = fill_more x.text.now x.slots.now x.out.now c.loop-i.i c.slot_at.ensures c.loop-i.invariant.0 c.loop-i.invariant.2 c.put_token-at.ensures in
-    (m.0, omega arith, m.1)
+    let m = fill_more x.text.now x.slots.now x.out.now c.loop-i.i c.slot_at.ensures c.loop-i.invariant.0 c.loop-i.invariant.2 c.put_token.ensures.put in
+    (m.0, omega arith, m.1, c.put_token.ensures.same ∙ c.loop-i.invariant.3)

@@ -7,4 +7,5 @@ use Rattle.writer.proofs.fill.Given as goal
 
 abbrev pub invariant-loop-i : goal.invariant-loop-i
 invariant-loop-i l =
-    (l.at ≡ length (written l.text (tokens_in l.slots l.i))) × (length l.out ≡ length l.initial.out) × (l.out ≡ onto (written l.text (tokens_in l.slots l.i)) l.initial.out)
+    (l.page.at ≡ length (written l.text (tokens_in l.slots l.i))) × (length l.page.out.now ≡ length l.initial.page.out.now)
+    × (l.page.out.now ≡ onto (written l.text (tokens_in l.slots l.i)) l.initial.page.out.now) × (l.page.out.ghost_name ≡ l.initial.page.out.ghost_name)

@@ -1,41 +1,31 @@
 -- `sanitizer::exposed::exposed` meets its contract. The invariant: found so far and those still to come are all. Assumes nothing.
-use mathlib.Core.Path.{sym, ap, ◌∙◌}
-use mathlib.Core.Bool.{cond}
+use mathlib.Core.Path.{◌≡◌, sym, ap, ◌∙◌}
+use mathlib.Core.Bool.{Bool, cond}
 use Prim.Native.Nat.{ℕ}
 use native.Mathlib.Omega.{arith}
 use Rattle.tokens.specs.Slots.{tokens_in}
 use Rattle.tokens.proofs.Storing.{length-tokens}
 use Rattle.sanitizer.specs.Exposed.{is_exposed}
 use Rattle.sanitizer.proofs.Scanning.{kind_tokens}
-use Rattle.sanitizer.proofs.Counting.{exposed_end, exposed_on, one_at_most}
+use Rattle.sanitizer.proofs.Counting.{exposed_end, exposed_on}
 use Rattle.sanitizer.proofs.exposed.exposed.Goals as goal
+use Rattle.sanitizer.proofs.exposed.exposed.Goals.{then-is_exposed, else-is_exposed}
 
-pub loop-at-init : goal.loop-at-init
-loop-at-init c = (omega arith, omega arith, omega arith)
-
-pub kind_at-requires : goal.kind_at-requires
-kind_at-requires c = omega arith
-
-pub overflow_add-found : goal.overflow_add-found
-overflow_add-found c = let v = one_at_most (is_exposed c.kind_at.result) in omega arith
-
-pub overflow_add-at : goal.overflow_add-at
-overflow_add-at c = omega arith
-
-pub loop-at-smaller : goal.loop-at-smaller
-loop-at-smaller c = omega arith
+-- what a token counts for
+counts : {a b : Bool} → a ≡ b → ◌≡◌ {A = ℕ} (cond a 1 0) (cond b 1 0)
+counts e = ap (λ b. cond b 1 0) e
 
 pub loop-at-preserved : goal.loop-at-preserved
 loop-at-preserved c =
     let a = c.args in
     let ws = a.slots.now in
     let t = tokens_in ws a.count in
-    let l = length-tokens ws 0 a.count in
-    let k = kind_tokens ws a.count c.loop-at.at (omega arith) in
-    let v = one_at_most (is_exposed c.kind_at.result) in
-    let e = exposed_on t c.loop-at.at (omega arith) in
-    let f = ap {B = ℕ} (λ (x : ℕ). cond (is_exposed x) 1 0) (c.kind_at.ensures ∙ sym k) in
-    omega arith
+    let e = exposed_on t c.loop-at.at (omega (arith, length-tokens ws 0 a.count)) in
+    let v = counts (c.is_exposed.ensures ∙ ap is_exposed (c.kind_at.ensures ∙ sym (kind_tokens ws a.count c.loop-at.at (omega arith)))) in
+    elim c.if-is_exposed.branch [
+      | then-is_exposed w ↦ let n = counts w.if-is_exposed.true in (omega arith, omega arith)
+      | else-is_exposed w ↦ let n = counts w.if-is_exposed.false in (omega arith, omega arith)
+    ]
 
 pub returns : goal.returns
 returns c =

@@ -1,12 +1,8 @@
 -- `sanitizer::scan::close_from` meets its contract. The invariant: the scan from here on finds what the whole scan finds. Assumes nothing.
 use mathlib.Core.Path.{◌≡◌}
-use Prim.Native.Nat.{◌≤◌, ◌-◌}
 use Rattle.tokens.specs.Slots.{tokens_in}
 use Rattle.sanitizer.specs.Scans.{close_at}
 use Rattle.sanitizer.proofs.scan.close_from.Given as goal
 
 abbrev pub invariant-loop-at : goal.invariant-loop-at
-invariant-loop-at l = (l.initial.at ≤ l.at) × (l.at ≤ l.count) × (close_at (tokens_in l.slots l.count) l.at ≡ close_at (tokens_in l.slots l.count) l.initial.at)
-
-abbrev pub decreases-loop-at : goal.decreases-loop-at
-decreases-loop-at l = l.count - l.at
+invariant-loop-at l = close_at (tokens_in l.slots l.count) l.at ≡ close_at (tokens_in l.slots l.count) l.fn.from.0

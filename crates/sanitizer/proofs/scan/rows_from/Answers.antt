@@ -9,18 +9,6 @@ use Rattle.tokens.proofs.Storing.{length-tokens}
 use Rattle.sanitizer.proofs.Scanning.{kind_tokens, rows_end, rows_close, rows_open, rows_inside, rows_comma, rows_space, rows_stop}
 use Rattle.sanitizer.proofs.scan.rows_from.Goals as goal
 
-pub rows-init : goal.rows-init
-rows-init c = (omega arith, omega arith, refl, refl)
-
-pub inside-init : goal.inside-init
-inside-init c = (omega arith, omega arith, omega arith, omega arith, c.rows.invariant.3)
-
-pub overflow_add-at : goal.overflow_add-at
-overflow_add-at c = omega arith
-
-pub inside-smaller : goal.inside-smaller
-inside-smaller c = omega arith
-
 pub inside-preserved : goal.inside-preserved
 inside-preserved c =
     let a = c.args in
@@ -39,12 +27,6 @@ outside-init c =
     let k = kind_tokens ws a.count c.inside.at (omega arith) in
     (omega arith, omega arith, omega arith, omega arith, sym (rows_close t c.inside.at true c.inside.at (omega arith) (omega arith)) ∙ c.inside.invariant.4)
 
-pub overflow_add-at-in-6 : goal.overflow_add-at-in-6
-overflow_add-at-in-6 c = omega arith
-
-pub rows-smaller : goal.rows-smaller
-rows-smaller c = omega arith
-
 pub rows-preserved : goal.rows-preserved
 rows-preserved c =
     let a = c.args in
@@ -53,12 +35,6 @@ rows-preserved c =
     let l = length-tokens ws 0 a.count in
     let k = kind_tokens ws a.count c.outside.at (omega arith) in
     (omega arith, omega arith, refl, sym (rows_open t c.outside.at false c.outside.end (omega arith) (omega arith)) ∙ c.outside.invariant.4)
-
-pub overflow_add-at-in-7 : goal.overflow_add-at-in-7
-overflow_add-at-in-7 c = omega arith
-
-pub outside-smaller-in-7 : goal.outside-smaller-in-7
-outside-smaller-in-7 c = omega arith
 
 pub outside-preserved-in-7 : goal.outside-preserved-in-7
 outside-preserved-in-7 c =
@@ -85,12 +61,6 @@ outside-preserved c =
         | inr e ↦ sym (rows_comma t c.outside.at c.outside.end (omega arith) (omega arith))
       ] ∙ c.outside.invariant.4,
     )
-
-pub overflow_add-at-in-1 : goal.overflow_add-at-in-1
-overflow_add-at-in-1 c = omega arith
-
-pub outside-smaller : goal.outside-smaller
-outside-smaller c = omega arith
 
 pub returns-then-at-count : goal.returns-then-at-count
 returns-then-at-count c =

@@ -13,20 +13,20 @@ use Rattle.sanitizer.proofs.Scanning.{kind_tokens}
 use Rattle.sanitizer.proofs.Turning.{left_put, turned}
 use Rattle.sanitizer.proofs.turn.turn_at.Goals as goal
 
-pub choose-arm-requires : goal.choose-arm-requires
-choose-arm-requires c =
+pub choose-does-requires : goal.choose-does-requires
+choose-does-requires c =
     let a = c.args in
     let k = kind_tokens a.slots.now a.count a.place.0 (omega arith) in
     omega arith
 
-pub returns-then-is_dotted : goal.returns-then-is_dotted
+pub returns-else-not-is_dotted : goal.returns-else-not-is_dotted
 unfolding turn_by
-returns-then-is_dotted c =
+returns-else-not-is_dotted c =
     let a = c.args in
     let t = tokens_in a.slots.now a.count in
     let k = c.kind_at.ensures ∙ sym (kind_tokens a.slots.now a.count a.place.0 (omega arith)) in
-    turned a.count a.slots.now _ a.place.0 c.kind_at.result a.state c.choose-arm.result ReplaceUnlessDotted k c.choose-arm.ensures c.in-ReplaceUnlessDotted.is
-    (ap (λ b. cond b t (set t a.place.0 (bare kind.Placeholder))) (sym c.is_dotted.ensures ∙ c.if-is_dotted.true)) (left_same a.count a.slots.now) refl refl (omega arith) (omega arith)
+    turned a.count a.slots.now _ a.place.0 c.kind_at.result a.state c.choose-does.result ReplaceUnlessDotted k c.choose-does.ensures c.in-ReplaceUnlessDotted.is
+    (ap (λ b. cond b t (set t a.place.0 (bare kind.Placeholder))) (sym c.is_dotted.ensures ∙ c.if-not-is_dotted.false)) (left_same a.count a.slots.now) refl refl (omega arith) (omega arith)
 
 pub returns-in-Stay : goal.returns-in-Stay
 unfolding turn_by
@@ -34,7 +34,7 @@ returns-in-Stay c =
     let a = c.args in
     let t = tokens_in a.slots.now a.count in
     let k = c.kind_at.ensures ∙ sym (kind_tokens a.slots.now a.count a.place.0 (omega arith)) in
-    turned a.count a.slots.now _ a.place.0 c.kind_at.result a.state c.choose-arm.result Stay k c.choose-arm.ensures c.in-Stay.is
+    turned a.count a.slots.now _ a.place.0 c.kind_at.result a.state c.choose-does.result Stay k c.choose-does.ensures c.in-Stay.is
     refl (left_same a.count a.slots.now) refl refl (omega arith) (omega arith)
 
 pub returns-in-Go : goal.returns-in-Go
@@ -43,7 +43,7 @@ returns-in-Go c =
     let a = c.args in
     let t = tokens_in a.slots.now a.count in
     let k = c.kind_at.ensures ∙ sym (kind_tokens a.slots.now a.count a.place.0 (omega arith)) in
-    turned a.count a.slots.now _ a.place.0 c.kind_at.result a.state c.choose-arm.result (Go c.in-Go.state) k c.choose-arm.ensures c.in-Go.is
+    turned a.count a.slots.now _ a.place.0 c.kind_at.result a.state c.choose-does.result (Go c.in-Go.state) k c.choose-does.ensures c.in-Go.is
     refl (left_same a.count a.slots.now) refl refl (omega arith) (omega arith)
 
 pub returns-in-Replace : goal.returns-in-Replace
@@ -52,17 +52,17 @@ returns-in-Replace c =
     let a = c.args in
     let t = tokens_in a.slots.now a.count in
     let k = c.kind_at.ensures ∙ sym (kind_tokens a.slots.now a.count a.place.0 (omega arith)) in
-    turned a.count a.slots.now _ a.place.0 c.kind_at.result a.state c.choose-arm.result Replace k c.choose-arm.ensures c.in-Replace.is
+    turned a.count a.slots.now _ a.place.0 c.kind_at.result a.state c.choose-does.result Replace k c.choose-does.ensures c.in-Replace.is
     refl (left_put a.count a.place.0 kind.Placeholder (omega arith) (omega arith) c.replace.ensures) refl refl (omega arith) (omega arith)
 
-pub returns-else-is_dotted : goal.returns-else-is_dotted
+pub returns-then-not-is_dotted : goal.returns-then-not-is_dotted
 unfolding turn_by
-returns-else-is_dotted c =
+returns-then-not-is_dotted c =
     let a = c.args in
     let t = tokens_in a.slots.now a.count in
     let k = c.kind_at.ensures ∙ sym (kind_tokens a.slots.now a.count a.place.0 (omega arith)) in
-    turned a.count a.slots.now _ a.place.0 c.kind_at.result a.state c.choose-arm.result ReplaceUnlessDotted k c.choose-arm.ensures c.in-ReplaceUnlessDotted.is
-    (ap (λ b. cond b t (set t a.place.0 (bare kind.Placeholder))) (sym c.is_dotted.ensures ∙ c.if-is_dotted.false)) (left_put a.count a.place.0 kind.Placeholder (omega arith) (omega arith) c.replace-in-ReplaceUnlessDotted.ensures) refl refl (omega arith) (omega arith)
+    turned a.count a.slots.now _ a.place.0 c.kind_at.result a.state c.choose-does.result ReplaceUnlessDotted k c.choose-does.ensures c.in-ReplaceUnlessDotted.is
+    (ap (λ b. cond b t (set t a.place.0 (bare kind.Placeholder))) (sym c.is_dotted.ensures ∙ c.if-not-is_dotted.true)) (left_put a.count a.place.0 kind.Placeholder (omega arith) (omega arith) c.replace-then-not-is_dotted.ensures) refl refl (omega arith) (omega arith)
 
 pub returns-in-ReplaceToClose : goal.returns-in-ReplaceToClose
 unfolding turn_by
@@ -71,7 +71,7 @@ returns-in-ReplaceToClose c =
     let t = tokens_in a.slots.now a.count in
     let k = c.kind_at.ensures ∙ sym (kind_tokens a.slots.now a.count a.place.0 (omega arith)) in
     let e = c.close_from-close.ensures.0 in
-    turned a.count a.slots.now _ a.place.0 c.kind_at.result a.state c.choose-arm.result ReplaceToClose k c.choose-arm.ensures c.in-ReplaceToClose.is
+    turned a.count a.slots.now _ a.place.0 c.kind_at.result a.state c.choose-does.result ReplaceToClose k c.choose-does.ensures c.in-ReplaceToClose.is
     (ap (one_for kind.Placeholder t a.place.0) (sym e)) (c.one_for.ensures a.count (omega arith) (omega arith)) e refl (omega arith) (omega arith)
 
 pub returns-in-CollapseRows : goal.returns-in-CollapseRows
@@ -81,7 +81,7 @@ returns-in-CollapseRows c =
     let t = tokens_in a.slots.now a.count in
     let k = c.kind_at.ensures ∙ sym (kind_tokens a.slots.now a.count a.place.0 (omega arith)) in
     let e = c.rows_from-end.ensures.0 in
-    turned a.count a.slots.now _ a.place.0 c.kind_at.result a.state c.choose-arm.result CollapseRows k c.choose-arm.ensures c.in-CollapseRows.is
+    turned a.count a.slots.now _ a.place.0 c.kind_at.result a.state c.choose-does.result CollapseRows k c.choose-does.ensures c.in-CollapseRows.is
     (ap (one_for kind.Ellipsis t a.place.0) (sym e)) (c.one_for-in-CollapseRows.ensures a.count (omega arith) (omega arith)) (ap (λ (x : ℕ). x + 1) e) refl (omega arith) (omega arith)
 
 pub returns-in-RemoveComment : goal.returns-in-RemoveComment
@@ -90,5 +90,5 @@ returns-in-RemoveComment c =
     let a = c.args in
     let t = tokens_in a.slots.now a.count in
     let k = c.kind_at.ensures ∙ sym (kind_tokens a.slots.now a.count a.place.0 (omega arith)) in
-    turned a.count a.slots.now _ a.place.0 c.kind_at.result a.state c.choose-arm.result RemoveComment k c.choose-arm.ensures c.in-RemoveComment.is
+    turned a.count a.slots.now _ a.place.0 c.kind_at.result a.state c.choose-does.result RemoveComment k c.choose-does.ensures c.in-RemoveComment.is
     refl (c.remove_comment.ensures a.count (omega arith) (omega arith)) refl refl (omega arith) (omega arith)
