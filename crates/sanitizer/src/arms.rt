@@ -1,10 +1,10 @@
 // The sanitiser's table: its states, its 32 arms by number, and what each does. Document 01, "sanitizer.rs"; specs/Arms.antt has the arms in
 // the order of the Rust's `match`. Here the kind is looked at first, so that an arm is found by two small matches.
-ghost use Rattle.std.specs.Prelude.{◌≡◌, ◌≤◌};
-ghost use Rattle.tokens.specs.Kinds as kinds;
+ghost use Rattle.std.specs.Prelude.{◌≡◌};
+ghost use Rattle.tokens.specs.Named.{number};
 ghost use Rattle.sanitizer.specs.Arms.{arm_of, arm};
 
-use tokens::kind;
+use tokens::kind::Kind;
 
 #[derive(Clone, Copy)]
 pub enum State {
@@ -44,60 +44,84 @@ pub enum Does {
 #[derive(Clone, Copy)]
 pub struct Arm(pub usize, pub Does);
 
-// Operator(_).
-fn operator(state: State, kind: u32) -> Arm
-    requires { (kinds.Multiply ≤ kind) × (kind ≤ kinds.SpecifiedPathAsText) }
-    ensures { result ≡ arm (arm_of state kind) }
-{
-    if kind == kind::IN {
-        return Arm(1, Does::Go(State::Keyword));
-    }
-    match state {
-        State::JoinOn => Arm(2, Does::Go(State::Default)),
-        _ => Arm(3, Does::Go(State::ComparisonOperator)),
-    }
-}
-
-// Keyword(_).
-fn word(state: State, kind: u32) -> Arm
-    requires { (kinds.Select ≤ kind) × (kind ≤ kinds.Other) }
-    ensures { result ≡ arm (arm_of state kind) }
+// The arm that decides for a kind in a state: the first of the 32 that takes it.
+#[tactic(auto, unfolding(crate::specs::Arms::arm, crate::specs::Arms::does_of, crate::specs::Arms::rules, crate::specs::Arms::arm_of, tokens::specs::Kinds::is_operator, tokens::specs::Kinds::is_keyword, tokens::specs::Kinds::is_indicator))]
+pub fn choose(state: State, kind: Kind) -> Arm
+    ensures { result ≡ arm (arm_of state (number kind)) }
 {
     match kind {
-        kind::VALUES => Arm(4, Does::Go(State::InsertValues)),
-        kind::ON => Arm(5, Does::Go(State::JoinOn)),
-        kind::OFFSET => Arm(6, Does::Go(State::Offset)),
-        kind::BETWEEN => Arm(7, Does::Go(State::Between)),
-        kind::ARRAY => Arm(8, Does::Go(State::Array)),
-        kind::AND => match state {
+        // Operator(_).
+        Kind::In => Arm(1, Does::Go(State::Keyword)),
+        Kind::Multiply
+        | Kind::Divide
+        | Kind::Modulo
+        | Kind::Plus
+        | Kind::Minus
+        | Kind::Not
+        | Kind::Like
+        | Kind::Ilike
+        | Kind::Rlike
+        | Kind::Glob
+        | Kind::Match
+        | Kind::Regexp
+        | Kind::Then
+        | Kind::Else
+        | Kind::Equal
+        | Kind::Equal2
+        | Kind::NullSafeEqual
+        | Kind::GreaterThanOrEqual
+        | Kind::LessThanOrEqual
+        | Kind::EqualOrGreaterThan
+        | Kind::EqualOrLessThan
+        | Kind::EqualWithArrows
+        | Kind::NotEqual
+        | Kind::GreaterThan
+        | Kind::LessThan
+        | Kind::LeftShift
+        | Kind::RightShift
+        | Kind::BitwiseAnd
+        | Kind::BitwiseOr
+        | Kind::SpecifiedPath
+        | Kind::SpecifiedPathAsText => match state {
+            State::JoinOn => Arm(2, Does::Go(State::Default)),
+            _ => Arm(3, Does::Go(State::ComparisonOperator)),
+        },
+        // Keyword(_).
+        Kind::Values => Arm(4, Does::Go(State::InsertValues)),
+        Kind::On => Arm(5, Does::Go(State::JoinOn)),
+        Kind::Offset => Arm(6, Does::Go(State::Offset)),
+        Kind::Between => Arm(7, Does::Go(State::Between)),
+        Kind::Array => Arm(8, Does::Go(State::Array)),
+        Kind::And => match state {
             State::Between => Arm(9, Does::Stay),
             _ => Arm(10, Does::Go(State::ComparisonOperator)),
         },
-        kind::OR => Arm(10, Does::Go(State::ComparisonOperator)),
-        kind::INSERT => Arm(11, Does::Stay),
-        kind::INTO => Arm(11, Does::Stay),
-        kind::LIMIT => Arm(12, Does::Go(State::Default)),
-        kind::FROM => Arm(12, Does::Go(State::Default)),
-        kind::WHERE => Arm(13, Does::Go(State::ComparisonOperator)),
-        kind::OTHER => match state {
+        Kind::Or => Arm(10, Does::Go(State::ComparisonOperator)),
+        Kind::Insert | Kind::Into => Arm(11, Does::Stay),
+        Kind::Limit | Kind::From => Arm(12, Does::Go(State::Default)),
+        Kind::Where => Arm(13, Does::Go(State::ComparisonOperator)),
+        Kind::Other => match state {
             State::KeywordScopeStarted => Arm(14, Does::Go(State::KeywordScopeStarted)),
             _ => Arm(15, Does::Go(State::Keyword)),
         },
-        _ => match state {
+        Kind::Select | Kind::Update | Kind::Set | Kind::Inner | Kind::Join => match state {
             State::KeywordScopeStarted => Arm(14, Does::Go(State::KeywordScopeStarted)),
             State::InsertValues => Arm(31, Does::Stay),
             _ => Arm(32, Does::Go(State::Default)),
         },
-    }
-}
-
-// The four brackets.
-fn bracket(state: State, kind: u32) -> Arm
-    requires { (kinds.ParentheseOpen ≤ kind) × (kind ≤ kinds.SquareBracketClose) }
-    ensures { result ≡ arm (arm_of state kind) }
-{
-    match kind {
-        kind::PARENTHESE_OPEN => match state {
+        // LiteralValueTypeIndicator(_).
+        Kind::Binary
+        | Kind::Date
+        | Kind::Time
+        | Kind::Timestamp
+        | Kind::X
+        | Kind::ZeroX
+        | Kind::B
+        | Kind::ZeroB
+        | Kind::N
+        | Kind::Charset => Arm(16, Does::Stay),
+        // The four brackets.
+        Kind::ParentheseOpen => match state {
             State::ComparisonOperator => Arm(17, Does::Go(State::ComparisonOperator)),
             State::Keyword => Arm(18, Does::Go(State::KeywordScopeStarted)),
             State::InsertValues => Arm(19, Does::Stay),
@@ -105,51 +129,30 @@ fn bracket(state: State, kind: u32) -> Arm
             State::KeywordScopeStarted => Arm(31, Does::Stay),
             _ => Arm(32, Does::Go(State::Default)),
         },
-        kind::SQUARE_BRACKET_OPEN => match state {
+        Kind::SquareBracketOpen => match state {
             State::Array => Arm(20, Does::Go(State::ArrayStarted)),
             State::InsertValues | State::KeywordScopeStarted => Arm(31, Does::Stay),
             _ => Arm(32, Does::Go(State::Default)),
         },
-        kind::PARENTHESE_CLOSE => match state {
+        Kind::ParentheseClose => match state {
             State::InsertValues => Arm(21, Does::Go(State::InsertValuesJustClosed)),
             _ => Arm(24, Does::Go(State::Default)),
         },
-        _ => Arm(24, Does::Go(State::Default)),
-    }
-}
-
-// None, Space, Newline, Dot, Comma, Wildcard.
-fn mark(state: State, kind: u32) -> Arm
-    requires { kind ≤ kinds.Wildcard }
-    ensures { result ≡ arm (arm_of state kind) }
-{
-    match kind {
-        kind::COMMA => match state {
+        Kind::SquareBracketClose => Arm(24, Does::Go(State::Default)),
+        // Marks.
+        Kind::Comma => match state {
             State::InsertValuesJustClosed => Arm(22, Does::Stay),
             State::InsertValues | State::KeywordScopeStarted => Arm(31, Does::Stay),
             _ => Arm(32, Does::Go(State::Default)),
         },
-        kind::DOT => match state {
+        Kind::Dot => match state {
             State::JoinOn => Arm(25, Does::Stay),
             State::InsertValues | State::KeywordScopeStarted => Arm(31, Does::Stay),
             _ => Arm(32, Does::Go(State::Default)),
         },
-        kind::SPACE => Arm(30, Does::Stay),
-        kind::NONE => Arm(30, Does::Stay),
-        _ => match state {
-            State::InsertValues | State::KeywordScopeStarted => Arm(31, Does::Stay),
-            _ => Arm(32, Does::Go(State::Default)),
-        },
-    }
-}
-
-// Colon, Semicolon, Placeholder, Ellipsis, and the values that are words.
-fn fixed(state: State, kind: u32) -> Arm
-    requires { (kinds.Colon ≤ kind) × (kind ≤ kinds.False) }
-    ensures { result ≡ arm (arm_of state kind) }
-{
-    match kind {
-        kind::NULL..=kind::FALSE => match state {
+        Kind::Space | Kind::None => Arm(30, Does::Stay),
+        // Values.
+        Kind::SingleQuoted | Kind::Numeric | Kind::Null | Kind::True | Kind::False => match state {
             State::ComparisonOperator | State::InsertValues | State::Offset | State::Between => Arm(
                 26,
                 Does::Replace,
@@ -157,29 +160,7 @@ fn fixed(state: State, kind: u32) -> Arm
             State::ArrayStarted | State::KeywordScopeStarted => Arm(28, Does::ReplaceToClose),
             _ => Arm(32, Does::Go(State::Default)),
         },
-        _ => match state {
-            State::InsertValues | State::KeywordScopeStarted => Arm(31, Does::Stay),
-            _ => Arm(32, Does::Go(State::Default)),
-        },
-    }
-}
-
-// LiteralValueTypeIndicator(_), and the kinds that carry offsets or a character.
-fn carrier(state: State, kind: u32) -> Arm
-    requires { (kinds.Binary ≤ kind) × (kind ≤ kinds.Unknown) }
-    ensures { result ≡ arm (arm_of state kind) }
-{
-    match kind {
-        kind::BINARY..=kind::CHARSET => Arm(16, Does::Stay),
-        kind::SINGLE_QUOTED..=kind::NUMERIC => match state {
-            State::ComparisonOperator | State::InsertValues | State::Offset | State::Between => Arm(
-                26,
-                Does::Replace,
-            ),
-            State::ArrayStarted | State::KeywordScopeStarted => Arm(28, Does::ReplaceToClose),
-            _ => Arm(32, Does::Go(State::Default)),
-        },
-        kind::DOUBLE_QUOTED => match state {
+        Kind::DoubleQuoted => match state {
             State::ComparisonOperator | State::InsertValues | State::Offset | State::Between => Arm(
                 27,
                 Does::ReplaceUnlessDotted,
@@ -187,30 +168,23 @@ fn carrier(state: State, kind: u32) -> Arm
             State::ArrayStarted | State::KeywordScopeStarted => Arm(28, Does::ReplaceToClose),
             _ => Arm(32, Does::Go(State::Default)),
         },
-        kind::NUMBERED_PLACEHOLDER => match state {
+        Kind::NumberedPlaceholder => match state {
             State::ArrayStarted | State::KeywordScopeStarted => Arm(28, Does::ReplaceToClose),
             State::InsertValues => Arm(31, Does::Stay),
             _ => Arm(32, Does::Go(State::Default)),
         },
-        kind::COMMENT => Arm(29, Does::RemoveComment),
-        _ => match state {
+        Kind::Comment => Arm(29, Does::RemoveComment),
+        // All others.
+        Kind::Newline
+        | Kind::Wildcard
+        | Kind::Colon
+        | Kind::Semicolon
+        | Kind::Placeholder
+        | Kind::Ellipsis
+        | Kind::Backticked
+        | Kind::Unknown => match state {
             State::InsertValues | State::KeywordScopeStarted => Arm(31, Does::Stay),
             _ => Arm(32, Does::Go(State::Default)),
         },
-    }
-}
-
-// The arm that decides for a kind in a state: the first of the 32 that takes it.
-pub fn choose(state: State, kind: u32) -> Arm
-    requires { kind ≤ kinds.Unknown }
-    ensures { result ≡ arm (arm_of state kind) }
-{
-    match kind {
-        kind::NONE..=kind::WILDCARD => mark(state, kind),
-        kind::PARENTHESE_OPEN..=kind::SQUARE_BRACKET_CLOSE => bracket(state, kind),
-        kind::COLON..=kind::FALSE => fixed(state, kind),
-        kind::MULTIPLY..=kind::SPECIFIED_PATH_AS_TEXT => operator(state, kind),
-        kind::SELECT..=kind::OTHER => word(state, kind),
-        _ => carrier(state, kind),
     }
 }

@@ -5,9 +5,22 @@ ghost use Rattle.tokens.specs.Slots.{room, slot_at, tokens_in};
 ghost use Rattle.sanitizer.specs.Scans.{is_close, close_at, rows_at};
 ghost use Rattle.sanitizer.specs.Run.{dotted};
 
-use tokens::kind;
+use tokens::kind::Kind;
 use tokens::place::Place;
 use tokens::slot::slot_at;
+
+// The numbers of the kinds that are looked for: a lent slot has its kind as a number.
+const SPACE: u32 = Kind::Space as u32;
+
+const DOT: u32 = Kind::Dot as u32;
+
+const COMMA: u32 = Kind::Comma as u32;
+
+const PARENTHESE_OPEN: u32 = Kind::ParentheseOpen as u32;
+
+const PARENTHESE_CLOSE: u32 = Kind::ParentheseClose as u32;
+
+const SQUARE_BRACKET_CLOSE: u32 = Kind::SquareBracketClose as u32;
 
 // The kind of the token at a place.
 pub fn kind_at(slots: &[u32], place: Place) -> u32
@@ -23,15 +36,15 @@ pub fn is_dotted(slots: &[u32], count: usize, place: Place) -> bool
     ensures { result ≡ dotted (tokens_in slots.now count) place.0 }
 {
     let at = place.0;
-    (at != 0 && kind_at(slots, Place(at - 1)) == kind::DOT)
-        || (at + 1 < count && kind_at(slots, Place(at + 1)) == kind::DOT)
+    (at != 0 && kind_at(slots, Place(at - 1)) == DOT)
+        || (at + 1 < count && kind_at(slots, Place(at + 1)) == DOT)
 }
 
 // Whether a kind is a close of either sort.
 fn is_close(kind: u32) -> bool
     ensures { result ≡ is_close kind }
 {
-    kind == kind::PARENTHESE_CLOSE || kind == kind::SQUARE_BRACKET_CLOSE
+    kind == PARENTHESE_CLOSE || kind == SQUARE_BRACKET_CLOSE
 }
 
 // The place of the first close of either sort from a place on; the count, where there is none.
@@ -64,7 +77,7 @@ pub fn rows_from(slots: &[u32], count: usize, from: Place) -> Place
             let kind = kind_at(slots, Place(at));
             at += 1;
             end = at;
-            if kind == kind::PARENTHESE_CLOSE {
+            if kind == PARENTHESE_CLOSE {
                 break 'inside;
             }
         }
@@ -75,16 +88,16 @@ pub fn rows_from(slots: &[u32], count: usize, from: Place) -> Place
             }
             let kind = kind_at(slots, Place(at));
             match kind {
-                kind::PARENTHESE_OPEN => {
+                PARENTHESE_OPEN => {
                     at += 1;
                     end = at;
                     break 'outside;
                 }
-                kind::PARENTHESE_CLOSE => {
+                PARENTHESE_CLOSE => {
                     at += 1;
                     end = at;
                 }
-                kind::SPACE | kind::COMMA => {
+                SPACE | COMMA => {
                     at += 1;
                 }
                 _ => {
