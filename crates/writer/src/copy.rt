@@ -67,21 +67,22 @@ impl Page<'_> {
         ensures { Grown self.old (encode c) self.new }
     {
         if c < 0x80 {
-            return self.push_all(&[c as u8]);
+            return self.push(c as u8);
         }
         let last = (0x80 + c % 64) as u8;
         if c < 0x800 {
-            return self.push_all(&[(0xC0 + c / 64) as u8, last]);
+            self.push((0xC0 + c / 64) as u8);
+            return self.push(last);
         }
         let third = (0x80 + c / 64 % 64) as u8;
         if c < 0x10000 {
-            return self.push_all(&[(0xE0 + c / 4096) as u8, third, last]);
+            self.push((0xE0 + c / 4096) as u8);
+            self.push(third);
+            return self.push(last);
         }
-        self.push_all(&[
-            (0xF0 + c / 262144) as u8,
-            (0x80 + c / 4096 % 64) as u8,
-            third,
-            last,
-        ])
+        self.push((0xF0 + c / 262144) as u8);
+        self.push((0x80 + c / 4096 % 64) as u8);
+        self.push(third);
+        self.push(last);
     }
 }
