@@ -65,6 +65,7 @@ pub fn rows_from(slots: &[u32], count: usize, from: Place) -> Place
     requires { (from.0 ≤ count) × (count ≤ room slots.now) }
     ensures { (result.0 ≡ rows_at true from.0 (tokens_in slots.now count) from.0) × (from.0 ≤ result.0) × (result.0 ≤ count) }
 {
+    // Stays: a project rule: document 01 names nested loops left by a label for this place (docs/DECISIONS.md, "Where each form goes").
     let start = from.0;
     let mut at = start;
     let mut end = start;
