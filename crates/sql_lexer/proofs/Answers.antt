@@ -16,13 +16,12 @@ use Rattle.tokens.proofs.Checking.{refusal-then, refusal_after}
 use Rattle.scans.specs.Ways.{pinned}
 use Rattle.lexer.specs.Read.{tokens, reading}
 use Rattle.lexer.specs.Lexes.{lex_answer, lex_buffer, Lexes}
-use Rattle.lexer.specs.declared.lex.Lexed.TheVariants as lexed
+use Rattle.std.specs.Prelude.{Ok, Err}
 use Rattle.writer.specs.Written.{onto}
 use Rattle.writer.specs.Promise.{check_out}
 use Rattle.writer.proofs.Answers.{out_short, out_fits}
 use Rattle.sql_lexer.specs.Promise.{sanitized_tokens, shape, figures, string_answer, string_slots, string_out, SanitizesString}
 use Rattle.sql_lexer.specs.declared.Figures.{Figures}
-use Rattle.sql_lexer.specs.declared.Shaped.TheVariants.{Done, Refused}
 use Rattle.sql_lexer.proofs.Stages.{Readied, Cleaned}
 
 module _ (text ws out : List ℕ) where
@@ -30,7 +29,7 @@ module _ (text ws out : List ℕ) where
   abbrev rest : Answer
   rest = check_out (length (shape pinned text)) (length out) then done (figures pinned text)
 
-  pub not_read : {r : Refusal} {left : List ℕ} → Lexes text ws (lexed.Refused r) left → SanitizesString text ws out (Refused r) left out
+  pub not_read : {r : Refusal} {left : List ℕ} → Lexes text ws (Err r) left → SanitizesString text ws out (Err r) left out
   unfolding string_answer string_slots string_out lex_buffer
   not_read {r} {left} l =
       let answer : refusal r ≡ (lex_answer pinned text (room ws) then rest) = sym (refusal-then r rest) ∙ ap (λ (a : Answer). a then rest) l.answer in
@@ -53,7 +52,7 @@ module _ (text ws out : List ℕ) where
     unfolding string_slots
     slots_cleaned = c.slots ∙ ap (λ (a : Answer). afterwards a (laid (sanitized_tokens pinned text) ws) ws) r.answer
 
-    pub no_room : (need : ℕ) → need ≡ length (shape pinned text) → length out < need → SanitizesString text ws out (Refused (NoRoomOut need)) left out
+    pub no_room : (need : ℕ) → need ≡ length (shape pinned text) → length out < need → SanitizesString text ws out (Err (NoRoomOut need)) left out
     unfolding string_out
     no_room need e h =
         let answer : no_room_out need ≡ string_answer pinned text (room ws) (length out) =
@@ -64,7 +63,7 @@ module _ (text ws out : List ℕ) where
         }
 
     pub shaped : (f : Figures) → f.tokens ≡ n → f.stop.0 ≡ stop → f.exposed ≡ shown → f.length ≡ length (shape pinned text) → f.length ≤ length out
-        → {out' : List ℕ} → out' ≡ onto (shape pinned text) out → SanitizesString text ws out (Done f) left out'
+        → {out' : List ℕ} → out' ≡ onto (shape pinned text) out → SanitizesString text ws out (Ok f) left out'
     unfolding string_out figures
     shaped f e₁ e₂ e₃ e₄ h w =
         let numbers : done (f.tokens ∷ f.stop.0 ∷ f.exposed ∷ f.length ∷ []) ≡ done (figures pinned text) =

@@ -25,6 +25,8 @@ use Rattle.tokens.specs.Formed.{carries_offsets}
 use Rattle.tokens.specs.Texts.{text_of}
 use Rattle.lexer.specs.declared.rule.State.{State}
 use Rattle.lexer.specs.declared.rule.State.TheVariants.{Default}
+use Rattle.tokens.specs.Named.{number as number_of}
+use Rattle.tokens.specs.declared.kind.Kind.{Kind}
 use Rattle.lexer.specs.declared.rule.Rule.TheVariants.{Quoted}
 use Rattle.scans.specs.Ways.{Ways}
 use Rattle.scans.specs.Scans.{bytes, quote_len}
@@ -111,7 +113,10 @@ pub record Closed (w : Ways) (q : ℕ) (front inside back : List ℕ) (i : ℕ) 
   pub place : length passed ≡ i
   pub ends : quote_len q (inside ++ q ∷ back) ≡ length inside
 
-module _ (w : Ways) (q k : ℕ) (isQuote : (st : State) (cs : List ℕ) → rule_of w st q cs ≡ Quoted k) (low : q < 0x80) (quoted-kind : kind.is_quoted k ≡ true) where
+module _ (w : Ways) (q : ℕ) (named : Kind) (isQuote : (st : State) (cs : List ℕ) → rule_of w st q cs ≡ Quoted named) (low : q < 0x80) (quoted-kind : kind.is_quoted (number_of named) ≡ true) where
+  abbrev k : ℕ
+  k = number_of named
+
   pub closed : (cs front inside back : List ℕ) → cs ≡ front ++ q ∷ (inside ++ q ∷ back) → all_scalars cs ≡ true → (i : ℕ)
       → at (tokens (go w 0 0 false Default cs)) i ≡ part_of k (length (encode_all front) + 1) (length (encode_all front) + 1 + length (encode_all inside))
       → Closed w q front inside back i
@@ -165,16 +170,19 @@ pub record Apart (w : Ways) (x y : List ℕ) (i : ℕ) : Type 0 where
   pub same_kinds : kinds (tokens (reading w x)) ≡ kinds (tokens (reading w y))
   pub same_texts : (j : ℕ) → (j ≡ i → ⊥) → token_text x (at (tokens (reading w x)) j) ≡ token_text y (at (tokens (reading w y)) j)
 
-module _ (w : Ways) (q k : ℕ) (isQuote : (st : State) (cs : List ℕ) → rule_of w st q cs ≡ Quoted k) (low : q < 0x80) (quoted-kind : kind.is_quoted k ≡ true) where
+module _ (w : Ways) (q : ℕ) (named : Kind) (isQuote : (st : State) (cs : List ℕ) → rule_of w st q cs ≡ Quoted named) (low : q < 0x80) (quoted-kind : kind.is_quoted (number_of named) ≡ true) where
+  abbrev kn : ℕ
+  kn = number_of named
+
   -- the pieces of a text whose quoted token is read where the walk stands
   pieces_closed : (cs front inside back : List ℕ) → cs ≡ front ++ q ∷ (inside ++ q ∷ back) → (ps : List Piece) (b : Bool) (st : State)
       → walk w (q ∷ inside ++ q ∷ back) 0 false Default front ≡ stands ps 0 b st → quote_len q (inside ++ q ∷ back) ≡ length inside
-      → pieces w 0 false Default cs ≡ ps ++ piece k inside ∷ pieces w 0 (eqb q 42) (state_after k st) back
+      → pieces w 0 false Default cs ≡ ps ++ piece kn inside ∷ pieces w 0 (eqb q 42) (state_after kn st) back
   pieces_closed cs front inside back all ps b st e f =
       let rest : List ℕ = q ∷ (inside ++ q ∷ back) in
       ap (pieces w 0 false Default) all
       ∙ subst (λ (v : Walk). Reads w v rest (pieces w 0 false Default (front ++ rest))) e (walk_reads w rest front 0 false Default)
-      ∙ ap (λ (l : List Piece). ps ++ l) (quoted_pieces w k q isQuote back inside f b st)
+      ∙ ap (λ (l : List Piece). ps ++ l) (quoted_pieces w named q isQuote back inside f b st)
 
   -- the characters of a valid text with a quoted part
   parts : (pre c post : List ℕ) → first_bad (pre ++ q ∷ (c ++ q ∷ post)) ≡ none → chars (pre ++ q ∷ (c ++ q ∷ post)) ≡ chars pre ++ q ∷ (chars c ++ q ∷ chars post)
@@ -183,7 +191,7 @@ module _ (w : Ways) (q k : ℕ) (isQuote : (st : State) (cs : List ℕ) → rule
       r.all ∙ ap (λ (l : List ℕ). chars pre ++ q ∷ l) (chars_cut c q post low r.valid).all
 
   pub apart : (pre c d post : List ℕ) → first_bad (pre ++ q ∷ (c ++ q ∷ post)) ≡ none → first_bad (pre ++ q ∷ (d ++ q ∷ post)) ≡ none → (i : ℕ)
-      → at (tokens (reading w (pre ++ q ∷ (c ++ q ∷ post)))) i ≡ part_of k (length pre + 1) (length pre + 1 + length c)
+      → at (tokens (reading w (pre ++ q ∷ (c ++ q ∷ post)))) i ≡ part_of kn (length pre + 1) (length pre + 1 + length c)
       → quote_len q (chars (d ++ q ∷ post)) ≡ length (chars d) → Apart w (pre ++ q ∷ (c ++ q ∷ post)) (pre ++ q ∷ (d ++ q ∷ post)) i
   unfolding reading skips
   apart pre c d post vx vy i e f =
@@ -193,23 +201,23 @@ module _ (w : Ways) (q k : ℕ) (isQuote : (st : State) (cs : List ℕ) → rule
       let cutx = chars_cut c q post low cut.valid in
       let cuty = chars_cut d q post low (chars_cut pre q (d ++ q ∷ post) low vy).valid in
       let here : at (tokens (go w 0 0 false Default (chars x))) i
-      ≡ part_of k (length (encode_all (chars pre)) + 1) (length (encode_all (chars pre)) + 1 + length (encode_all (chars c))) =
-      e ∙ ap (λ (m : ℕ). part_of k (m + 1) (m + 1 + length c)) (ap length (sym cut.front)) ∙ ap (λ (m : ℕ). part_of k (length (encode_all (chars pre)) + 1) (length (encode_all (chars pre)) + 1 + m)) (ap length (sym cutx.front)) in
-      let z = closed w q k isQuote low quoted-kind (chars x) (chars pre) (chars c) (chars post) (parts pre c post vx) (chars_scalars x) i here in
+      ≡ part_of kn (length (encode_all (chars pre)) + 1) (length (encode_all (chars pre)) + 1 + length (encode_all (chars c))) =
+      e ∙ ap (λ (m : ℕ). part_of kn (m + 1) (m + 1 + length c)) (ap length (sym cut.front)) ∙ ap (λ (m : ℕ). part_of kn (length (encode_all (chars pre)) + 1) (length (encode_all (chars pre)) + 1 + m)) (ap length (sym cutx.front)) in
+      let z = closed w q named isQuote low quoted-kind (chars x) (chars pre) (chars c) (chars post) (parts pre c post vx) (chars_scalars x) i here in
       let walked : walk w (q ∷ (chars d ++ q ∷ chars post)) 0 false Default (chars pre) ≡ stands z.passed 0 z.star z.state =
       walk_local w q (chars c ++ q ∷ chars post) (chars d ++ q ∷ chars post) (chars pre) 0 false Default (ap skips z.walked) ∙ z.walked in
-      let rest : List Piece = pieces w 0 (eqb q 42) (state_after k z.state) (chars post) in
-      let px : pieces w 0 false Default (chars x) ≡ z.passed ++ piece k (chars c) ∷ rest =
+      let rest : List Piece = pieces w 0 (eqb q 42) (state_after kn z.state) (chars post) in
+      let px : pieces w 0 false Default (chars x) ≡ z.passed ++ piece kn (chars c) ∷ rest =
       pieces_closed (chars x) (chars pre) (chars c) (chars post) (parts pre c post vx) z.passed z.star z.state z.walked z.ends in
-      let py : pieces w 0 false Default (chars y) ≡ z.passed ++ piece k (chars d) ∷ rest =
+      let py : pieces w 0 false Default (chars y) ≡ z.passed ++ piece kn (chars d) ∷ rest =
       pieces_closed (chars y) (chars pre) (chars d) (chars post) (parts pre d post vy) z.passed z.star z.state walked (ap (quote_len q) (sym cuty.all) ∙ f) in
       let ks : kinds (tokens (reading w x)) ≡ kinds (tokens (reading w y)) =
-      kinds_pieces w (chars x) 0 0 false Default ∙ ap piece_kinds px ∙ kinds_apart k (chars c) (chars d) rest z.passed ∙ ap piece_kinds (sym py)
+      kinds_pieces w (chars x) 0 0 false Default ∙ ap piece_kinds px ∙ kinds_apart kn (chars c) (chars d) rest z.passed ∙ ap piece_kinds (sym py)
       ∙ sym (kinds_pieces w (chars y) 0 0 false Default) in
       record {
         same_kinds = ks;
         same_texts = λ j h.
             texts-at x y (tokens (reading w x)) (tokens (reading w y)) (pieces w 0 false Default (chars x)) (pieces w 0 false Default (chars y))
             (reading_spells w x vx) (reading_spells w y vy) (length_same (tokens (reading w x)) (tokens (reading w y)) ks) j
-            (ap (λ (ps : List Piece). piece_at ps j) px ∙ at_apart k (chars c) (chars d) rest z.passed j (λ g. h (g ∙ z.place)) ∙ ap (λ (ps : List Piece). piece_at ps j) (sym py));
+            (ap (λ (ps : List Piece). piece_at ps j) px ∙ at_apart kn (chars c) (chars d) rest z.passed j (λ g. h (g ∙ z.place)) ∙ ap (λ (ps : List Piece). piece_at ps j) (sym py));
       }

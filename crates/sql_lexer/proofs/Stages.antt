@@ -24,7 +24,8 @@ use Rattle.tokens.proofs.Laid.{laid_left}
 use Rattle.scans.specs.Ways.{pinned}
 use Rattle.lexer.specs.Read.{tokens, stop_at, reading}
 use Rattle.lexer.specs.Lexes.{valid_answer, lex_answer, lex_buffer, Lexes}
-use Rattle.lexer.specs.declared.lex.Lexed.TheVariants.{Done}
+use Rattle.std.specs.Prelude.{Ok}
+use Rattle.lexer.specs.declared.lex.Lexed.{Lexed}
 use Rattle.lexer.proofs.Formed.{all_formed}
 use Rattle.sanitizer.specs.Run.{sanitized, Known}
 use Rattle.sanitizer.specs.Exposed.{exposed}
@@ -51,28 +52,28 @@ number : ℕ → Answer → ℕ
 number i (done ns) = get_or ns i 0
 number i (refused k d) = 0
 
-module _ {text ws : List ℕ} {n : ℕ} {stop : Offset} {left : List ℕ} where
-  pub lex_readied : Lexes text ws (Done n stop) left → Readied text ws n stop.0 left
+module _ {text ws : List ℕ} {l : Lexed} {left : List ℕ} where
+  pub lex_readied : Lexes text ws (Ok l) left → Readied text ws l.tokens l.stop.0 left
   unfolding lex_answer valid_answer check_text lex_buffer number
-  lex_readied l =
-      go (ltb limit (length text)) (first_bad text) (ltb (room ws) (length (read_off text))) refl refl l.answer l.buffer
+  lex_readied p =
+      go (ltb limit (length text)) (first_bad text) (ltb (room ws) (length (read_off text))) refl refl p.answer p.buffer
     where
       go : (long : Bool) (bad : Option ℕ) (over : Bool) → ltb limit (length text) ≡ long → ltb (room ws) (length (read_off text)) ≡ over
-          → done (n ∷ stop.0 ∷ [])
+          → done (l.tokens ∷ l.stop.0 ∷ [])
           ≡ (cond long (text_too_long (length text)) (validity bad) then cond over (no_room_tokens (length (read_off text))) (done (length (read_off text) ∷ stop_at (reading pinned text) ∷ [])))
           → left
           ≡ afterwards (cond long (text_too_long (length text)) (validity bad) then cond over (no_room_tokens (length (read_off text))) (done (length (read_off text) ∷ stop_at (reading pinned text) ∷ []))) (laid (read_off text) ws) ws
-          → Readied text ws n stop.0 left
-      go true bad over p r e f = clash (cc)
-      go false (some at) over p r e f = clash (cc)
-      go false none true p r e f = clash (cc)
-      go false none false p r e f = record {
+          → Readied text ws l.tokens l.stop.0 left
+      go true bad over q r e f = clash (cc)
+      go false (some at) over q r e f = clash (cc)
+      go false none true q r e f = clash (cc)
+      go false none false q r e f = record {
         count = ap (number 0) e;
         stopped = ap (number 1) e;
-        short = ltb-false limit (length text) p;
+        short = ltb-false limit (length text) q;
         fits = ltb-false (room ws) (length (read_off text)) r;
         slots = f;
-        answer = l.answer;
+        answer = p.answer;
       }
 
 -- ---- sanitising

@@ -1,5 +1,6 @@
 -- What the one call promises: reading, sanitising and writing in one, with the refusals of document 01. Assumes nothing.
-use Rattle.std.specs.Prelude.{◌≡◌, List, [], ◌∷◌, ℕ, length}
+use Rattle.std.specs.Prelude.{◌≡◌, List, [], ◌∷◌, ℕ, length, Result, Ok, Err}
+use Rattle.tokens.specs.declared.refusal.Refusal.{Refusal}
 use Rattle.tokens.specs.declared.slot.Slot.{Slot}
 use Rattle.tokens.specs.Slots.{room, laid}
 use Rattle.tokens.specs.Answers.{Answer, done, refusal}
@@ -11,13 +12,12 @@ use Rattle.sanitizer.specs.Run.{sanitized}
 use Rattle.sanitizer.specs.Exposed.{exposed}
 use Rattle.writer.specs.Written.{written, onto}
 use Rattle.writer.specs.Promise.{check_out}
-use Rattle.sql_lexer.specs.declared.Shaped.{Shaped}
-use Rattle.sql_lexer.specs.declared.Shaped.TheVariants.{Done, Refused}
+use Rattle.sql_lexer.specs.declared.Figures.{Figures}
 
 -- the code's answer in the paper's numbers
-abbrev pub paper : Shaped → Answer
-paper (Done f) = done (f.tokens ∷ f.stop.0 ∷ f.exposed ∷ f.length ∷ [])
-paper (Refused r) = refusal r
+abbrev pub paper : Result Figures Refusal → Answer
+paper (Ok f) = done (f.tokens ∷ f.stop.0 ∷ f.exposed ∷ f.length ∷ [])
+paper (Err why) = refusal why
 
 -- the tokens of a text, sanitised
 unfoldable pub sanitized_tokens : Ways → List ℕ → List Slot
@@ -45,6 +45,6 @@ unfoldable pub string_out : Ways → List ℕ → ℕ → List ℕ → List ℕ
 string_out w text slots out = afterwards (string_answer w text slots (length out)) (onto (shape w text) out) out
 
 -- the answer, and what is left in the slots and in the output
-pub record SanitizesString (text ws out : List ℕ) (r : Shaped) (ws' out' : List ℕ) : Type 0 where
+pub record SanitizesString (text ws out : List ℕ) (r : Result Figures Refusal) (ws' out' : List ℕ) : Type 0 where
   pub answer : paper r ≡ string_answer pinned text (room ws) (length out)
   pub buffers : (ws' ≡ string_slots pinned text ws) × (out' ≡ string_out pinned text (room ws) out)

@@ -11,19 +11,17 @@ ghost use Rattle.tokens.specs.Checks.{afterwards};
 ghost use Rattle.tokens.specs.Slots.{room, tokens_in};
 ghost use Rattle.writer.specs.Written.{written, onto};
 ghost use Rattle.writer.specs.Promise.{write_answer};
-ghost use Rattle.sql_lexer_c.specs.Row.{refused_row, in_numbers, of_reading, of_sanitising, of_writing, of_shaping};
+ghost use Rattle.sql_lexer_c.specs.declared.HayAnswer.{HayAnswer};
+ghost use Rattle.sql_lexer_c.specs.Row.{in_numbers, of_reading, of_sanitising, of_writing, of_shaping};
 ghost use Rattle.sql_lexer.specs.Promise.{string_answer, string_slots, string_out};
 
-use lexer::lex::Lexed;
-use sanitizer::Sanitized;
-use sql_lexer::Shaped;
 use tokens::refusal::Refusal;
-use writer::Wrote;
 
 // An answer: a refusal, 1 to 7, and its detail; or refusal 0, and the numbers that the call answers with. A field that an answer
 // does not have is 0.
+// Stays: numbers for the refusals, and one struct for an answer and a refusal: C's answer, include/hayrumble.h.
 #[repr(C)]
-#[derive(Clone, Copy)]
+#[derive(Clone, Copy, Default)]
 pub struct HayAnswer {
     pub refusal: u64,
     pub detail: u64,
@@ -33,31 +31,16 @@ pub struct HayAnswer {
     pub length: u64,
 }
 
-fn refused(number: u64, detail: usize) -> HayAnswer
-    ensures { result ≡ refused_row number detail }
-{
-    HayAnswer {
-        refusal: number,
-        detail: detail as u64,
-        tokens: 0,
-        stop: 0,
-        exposed: 0,
-        length: 0,
-    }
-}
+impl From<Refusal> for HayAnswer {
+    ghost from_gives = { λ why answer. (row : List ℕ → HayAnswer) → answer ≡ in_numbers row (refusal why) };
 
-// A refusal's number and detail.
-fn refusal_numbers(why: Refusal) -> HayAnswer
-    ensures { (row : List ℕ → HayAnswer) → result ≡ in_numbers row (refusal why) }
-{
-    match why {
-        Refusal::TextTooLong(length) => refused(1, length),
-        Refusal::NotUtf8(offset) => refused(2, offset.0),
-        Refusal::NoRoomTokens(needed) => refused(3, needed),
-        Refusal::BadCount(room) => refused(4, room),
-        Refusal::BadToken(place) => refused(5, place.0),
-        Refusal::CutChar(place) => refused(6, place.0),
-        Refusal::NoRoomOut(needed) => refused(7, needed),
+    fn from(why: Refusal) -> HayAnswer {
+        let (number, detail) = why.numbers();
+        HayAnswer {
+            refusal: u64::from(number),
+            detail: detail as u64,
+            ..HayAnswer::default()
+        }
     }
 }
 
@@ -65,17 +48,13 @@ pub fn hay_lex(text: &[u8], slots: &mut [u32]) -> HayAnswer
     ensures value { result ≡ in_numbers of_reading (lex_answer pinned text.now (room slots.old)) }
     ensures slots_after { slots.new ≡ lex_buffer pinned text.now slots.old }
 {
-    let answer = sql_lexer::lex(text, slots);
-    match answer {
-        Lexed::Done(tokens, stop) => HayAnswer {
-            refusal: 0,
-            detail: 0,
-            tokens: tokens as u64,
-            stop: stop.0 as u64,
-            exposed: 0,
-            length: 0,
+    match sql_lexer::lex(text, slots) {
+        Ok(lexed) => HayAnswer {
+            tokens: lexed.tokens as u64,
+            stop: lexed.stop.0 as u64,
+            ..HayAnswer::default()
         },
-        Lexed::Refused(why) => refusal_numbers(why),
+        Err(why) => HayAnswer::from(why),
     }
 }
 
@@ -83,17 +62,12 @@ pub fn hay_sanitize(slots: &mut [u32], count: usize) -> HayAnswer
     ensures value { result ≡ in_numbers of_sanitising (sanitize_answer slots.old count) }
     ensures slots_after { slots.new ≡ sanitize_buffer slots.old count }
 {
-    let answer = sql_lexer::sanitize(slots, count);
-    match answer {
-        Sanitized::Done(exposed) => HayAnswer {
-            refusal: 0,
-            detail: 0,
-            tokens: 0,
-            stop: 0,
+    match sql_lexer::sanitize(slots, count) {
+        Ok(exposed) => HayAnswer {
             exposed: exposed as u64,
-            length: 0,
+            ..HayAnswer::default()
         },
-        Sanitized::Refused(why) => refusal_numbers(why),
+        Err(why) => HayAnswer::from(why),
     }
 }
 
@@ -101,17 +75,12 @@ pub fn hay_write(text: &[u8], slots: &[u32], count: usize, out: &mut [u8]) -> Ha
     ensures value { result ≡ in_numbers of_writing (write_answer text.now slots.now count (length out.old)) }
     ensures out_after { out.new ≡ afterwards (write_answer text.now slots.now count (length out.old)) (onto (written text.now (tokens_in slots.now count)) out.old) out.old }
 {
-    let answer = sql_lexer::write(text, slots, count, out);
-    match answer {
-        Wrote::Done(length) => HayAnswer {
-            refusal: 0,
-            detail: 0,
-            tokens: 0,
-            stop: 0,
-            exposed: 0,
+    match sql_lexer::write(text, slots, count, out) {
+        Ok(length) => HayAnswer {
             length: length as u64,
+            ..HayAnswer::default()
         },
-        Wrote::Refused(why) => refusal_numbers(why),
+        Err(why) => HayAnswer::from(why),
     }
 }
 
@@ -120,19 +89,14 @@ pub fn hay_sanitize_string(text: &[u8], slots: &mut [u32], out: &mut [u8]) -> Ha
     ensures slots_after { slots.new ≡ string_slots pinned text.now slots.old }
     ensures out_after { out.new ≡ string_out pinned text.now (room slots.old) out.old }
 {
-    let answer = sql_lexer::sanitize_string(text, slots, out);
-    match answer {
-        Shaped::Done(figures) => {
-            let stop = figures.stop;
-            HayAnswer {
-                refusal: 0,
-                detail: 0,
-                tokens: figures.tokens as u64,
-                stop: stop.0 as u64,
-                exposed: figures.exposed as u64,
-                length: figures.length as u64,
-            }
-        }
-        Shaped::Refused(why) => refusal_numbers(why),
+    match sql_lexer::sanitize_string(text, slots, out) {
+        Ok(figures) => HayAnswer {
+            tokens: figures.tokens as u64,
+            stop: figures.stop.0 as u64,
+            exposed: figures.exposed as u64,
+            length: figures.length as u64,
+            ..HayAnswer::default()
+        },
+        Err(why) => HayAnswer::from(why),
     }
 }

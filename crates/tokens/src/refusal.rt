@@ -1,5 +1,5 @@
 // Why a call is refused, with the detail. Document 01, "Refusal numbers"; specs/Answers.antt gives each its number.
-ghost use Rattle.std.specs.Prelude.{◌≡◌};
+ghost use Rattle.std.specs.Prelude.{◌≡◌, ◌≤◌};
 ghost use Rattle.tokens.specs.declared.refusal.Refusal.TheVariants.{NotUtf8};
 
 use crate::place::Place;
@@ -32,5 +32,25 @@ impl From<BadAt> for Refusal {
 
     fn from(bad: BadAt) -> Self {
         Refusal::NotUtf8(bad.0)
+    }
+}
+
+impl Refusal {
+    ghost use Rattle.tokens.specs.Answers.{refusal, refused};
+
+    // Its number, 1 to 7, and its detail.
+    pub fn numbers(self) -> (u8, usize)
+        ensures number_bound { result.0 ≤ 7 }
+        ensures value { refusal self ≡ refused result.0 result.1 }
+    {
+        match self {
+            Refusal::TextTooLong(length) => (1, length),
+            Refusal::NotUtf8(offset) => (2, offset.0),
+            Refusal::NoRoomTokens(needed) => (3, needed),
+            Refusal::BadCount(whole) => (4, whole),
+            Refusal::BadToken(place) => (5, place.0),
+            Refusal::CutChar(place) => (6, place.0),
+            Refusal::NoRoomOut(needed) => (7, needed),
+        }
     }
 }

@@ -9,8 +9,7 @@ use Rattle.tokens.specs.declared.slot.Slot.{Slot}
 use Rattle.tokens.specs.Slots.{tokens_in}
 use Rattle.scans.specs.Ways.{pinned}
 use Rattle.lexer.specs.Lexes.{Lexes}
-use Rattle.lexer.specs.declared.lex.Lexed.{Lexed}
-use Rattle.lexer.specs.declared.lex.Lexed.TheVariants.{Done}
+use Rattle.std.proofs.lemmas.Result.{err_from_is_err_and}
 use Rattle.chars.specs.declared.offset.Offset.{Offset}
 use Rattle.lexer.proofs.Turns.{tokens_few}
 use Rattle.writer.specs.Written.{written, onto}
@@ -18,10 +17,6 @@ use Rattle.sql_lexer.specs.Promise.{shape}
 use Rattle.sql_lexer.proofs.Stages.{Readied, lex_readied, readied_known, Cleaned, cleaned}
 use Rattle.sql_lexer.proofs.Answers.{not_read, no_room, shaped}
 use Rattle.sql_lexer.proofs.sanitize_string.Goals as goal
-
--- the text was read
-readied : (text ws : List ℕ) (r : Lexed) (n : ℕ) (stop : Offset) (left : List ℕ) → r ≡ Done n stop → Lexes text ws r left → Readied text ws n stop.0 left
-readied text ws r n stop left e l = lex_readied (subst (λ (x : Lexed). Lexes text ws x left) e l)
 
 -- what was measured, or filled in, is the shape
 module _ {text ws : List ℕ} {n shown : ℕ} {left : List ℕ} (k : Cleaned text ws n shown left) where
@@ -35,33 +30,33 @@ module _ {text ws : List ℕ} {n shown : ℕ} {left : List ℕ} (k : Cleaned tex
 
 pub sanitize_tokens-exposed-requires : goal.sanitize_tokens-exposed-requires
 sanitize_tokens-exposed-requires c =
-    readied_known (readied c.args.text.now c.args.slots.now c.lex-read.result c.in-Done.count c.in-Done.stop c.lex-read.new.slots c.in-Done.is c.lex-read.ensures)
+    readied_known (lex_readied c.in_ok-tokens.ensures)
 
 pub measure-length-requires : goal.measure-length-requires
 measure-length-requires c =
     let x = c.args in
-    let r = readied c.args.text.now c.args.slots.now c.lex-read.result c.in-Done.count c.in-Done.stop c.lex-read.new.slots c.in-Done.is c.lex-read.ensures in
+    let r = lex_readied c.in_ok-tokens.ensures in
     (r.short, omega (arith, r.count, r.short, tokens_few pinned x.text.now), (cleaned r c.sanitize_tokens-exposed.ensures).places)
 
 pub returns-then-out-length : goal.returns-then-out-length
 returns-then-out-length c =
-    let r = readied c.args.text.now c.args.slots.now c.lex-read.result c.in-Done.count c.in-Done.stop c.lex-read.new.slots c.in-Done.is c.lex-read.ensures in
+    let r = lex_readied c.in_ok-tokens.ensures in
     let k = cleaned r c.sanitize_tokens-exposed.ensures in
     no_room _ _ _ r k _ (measured k _ c.measure-length.ensures) (omega arith)
 
 pub fill-requires-clause-count_bound : goal.fill-requires-clause-count_bound
 fill-requires-clause-count_bound c =
-    let r = readied c.args.text.now c.args.slots.now c.lex-read.result c.in-Done.count c.in-Done.stop c.lex-read.new.slots c.in-Done.is c.lex-read.ensures in
+    let r = lex_readied c.in_ok-tokens.ensures in
     let k = cleaned r c.sanitize_tokens-exposed.ensures in
     (k.places, k.formed)
 
-pub returns-else-out-length : goal.returns-else-out-length
-returns-else-out-length c =
-    let r = readied c.args.text.now c.args.slots.now c.lex-read.result c.in-Done.count c.in-Done.stop c.lex-read.new.slots c.in-Done.is c.lex-read.ensures in
+pub returns : goal.returns
+returns c =
+    let r = lex_readied c.in_ok-tokens.ensures in
     let k = cleaned r c.sanitize_tokens-exposed.ensures in
     shaped _ _ _ r k _ refl refl refl (measured k _ c.measure-length.ensures) (omega arith) (filled k _ _ c.fill.ensures)
 
-pub returns-in-Refused : goal.returns-in-Refused
-returns-in-Refused c =
-    let x = c.args in
-    not_read _ _ _ (subst (λ (r : Lexed). Lexes x.text.now x.slots.now r c.lex-read.new.slots) c.in-Refused.is c.lex-read.ensures)
+pub returns-in_err-tokens : goal.returns-in_err-tokens
+returns-in_err-tokens c =
+    let p = err_from_is_err_and c.from_residual.result c.from_residual.ensures.1 in
+    rw (p.1, p.2) (not_read _ _ _ c.in_err-tokens.ensures)
