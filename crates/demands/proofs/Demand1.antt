@@ -7,6 +7,8 @@
 -- lex_leaves, sanitize_leaves, write_leaves, string_leaves       and what it leaves in the buffers
 -- `buffer_content` refuses nothing and lends nothing to write in.
 -- Assumes nothing.
+use Rattle.std.specs.Prelude.{Result}
+use Rattle.tokens.specs.declared.refusal.Refusal.{Refusal}
 use contract.Lifetimes.{Lfts}
 use borrow.Fn.Kinds.{Dens}
 use mathlib.Core.Path.{◌≡◌, sym, ap, subst, ◌∙◌}
@@ -32,14 +34,12 @@ use Rattle.sanitizer.specs.Run.{sanitized}
 use Rattle.sanitizer.specs.Exposed.{exposed}
 use Rattle.sanitizer.specs.Promise as sanitizer
 use Rattle.sanitizer.specs.Promise.{sanitize_answer, sanitize_buffer, Sanitizes}
-use Rattle.sanitizer.specs.declared.Sanitized.{Sanitized}
 use Rattle.writer.specs.Written.{written, onto}
 use Rattle.writer.specs.Promise as writer
 use Rattle.writer.specs.Promise.{check_cuts, check_out, Writes}
-use Rattle.writer.specs.declared.Wrote.{Wrote}
 use Rattle.sql_lexer.specs.Promise as face
 use Rattle.sql_lexer.specs.Promise.{shape, figures, string_answer, string_slots, string_out, SanitizesString}
-use Rattle.sql_lexer.specs.declared.Shaped.{Shaped}
+use Rattle.sql_lexer.specs.declared.Figures.{Figures}
 use Rattle.sql_lexer.proofs.lex.Kinds as lex-kinds
 use Rattle.sql_lexer.proofs.lex.Reads as lex-reads
 use Rattle.sql_lexer.proofs.sanitize.Kinds as sanitize-kinds
@@ -103,7 +103,7 @@ module _ {answer : Answer} {before written after : List ℕ} where
   }
 
 -- ---- reading: 1, 2, 3
-module _ {text ws : List ℕ} {r : Lexed} {left : List ℕ} (promise : Lexes text ws r left) where
+module _ {text ws : List ℕ} {r : Result Lexed Refusal} {left : List ℕ} (promise : Lexes text ws r left) where
   pub lex_follows : Follows (lexer.paper r) (lex_table text ws) (length (tokens_of text) ∷ stop_at (reading pinned text) ∷ [])
   unfolding lex_answer valid_answer
   lex_follows =
@@ -118,7 +118,7 @@ module _ {text ws : List ℕ} {r : Lexed} {left : List ℕ} (promise : Lexes tex
   lex_leaves = leaves (promise.buffer ∙ ap (λ (a : Answer). afterwards a (laid (tokens_of text) ws) ws) (sym promise.answer))
 
 -- ---- sanitising: 4, 5
-module _ {ws : List ℕ} {n : ℕ} {r : Sanitized} {left : List ℕ} (promise : Sanitizes ws n r left) where
+module _ {ws : List ℕ} {n : ℕ} {r : Result ℕ Refusal} {left : List ℕ} (promise : Sanitizes ws n r left) where
   pub sanitize_follows : Follows (sanitizer.paper r) (sanitize_table ws n) (exposed (sanitized (tokens_in ws n)) ∷ [])
   unfolding sanitize_answer
   sanitize_follows =
@@ -131,7 +131,7 @@ module _ {ws : List ℕ} {n : ℕ} {r : Sanitized} {left : List ℕ} (promise : 
   sanitize_leaves = leaves (promise.buffer ∙ ap (λ (a : Answer). afterwards a (laid (sanitized (tokens_in ws n)) ws) ws) (sym promise.answer))
 
 -- ---- writing: 1, 2, 4, 5, 6, 7
-module _ {text ws : List ℕ} {n : ℕ} {out : List ℕ} {r : Wrote} {left : List ℕ} (promise : Writes text ws n out r left) where
+module _ {text ws : List ℕ} {n : ℕ} {out : List ℕ} {r : Result ℕ Refusal} {left : List ℕ} (promise : Writes text ws n out r left) where
   pub write_follows : Follows (writer.paper r) (write_table text ws n out) (length (written text (tokens_in ws n)) ∷ [])
   unfolding check_out
   write_follows =
@@ -157,7 +157,7 @@ first text a o b =
     cond a (text_too_long (length text)) (validity o)
     then cond b (no_room_tokens (length (tokens_of text))) (done (length (tokens_of text) ∷ stop_at (reading pinned text) ∷ []))
 
-module _ {text ws out : List ℕ} {r : Shaped} {left left' : List ℕ} (promise : SanitizesString text ws out r left left') where
+module _ {text ws out : List ℕ} {r : Result Figures Refusal} {left left' : List ℕ} (promise : SanitizesString text ws out r left left') where
   -- its checks, one after the other
   string_checks : face.paper r
       ≡ (long text

@@ -9,6 +9,11 @@
 -- any_content      the second half: the same shape whatever the content
 -- any_content_call the same of the one call
 -- Assumes nothing.
+use Rattle.std.specs.Prelude.{Result, Ok}
+use Rattle.tokens.specs.declared.refusal.Refusal.{Refusal}
+use Rattle.tokens.specs.Named.{number as number_of}
+use Rattle.tokens.specs.declared.kind.Kind.{Kind}
+use Rattle.tokens.specs.declared.kind.Kind.TheVariants as the
 use mathlib.Core.Path.{◌≡◌, refl, sym, ap, subst, ◌∙◌}
 use mathlib.Core.Bool.{Bool, true, false, cond}
 use mathlib.Core.List.{List, [], ◌∷◌, ◌++◌}
@@ -38,8 +43,6 @@ use Rattle.writer.specs.Written.{onto}
 use Rattle.writer.specs.Promise.{check_out}
 use Rattle.sql_lexer.specs.Promise.{paper, sanitized_tokens, shape, figures, string_answer, string_out, SanitizesString}
 use Rattle.sql_lexer.specs.declared.Figures.{Figures}
-use Rattle.sql_lexer.specs.declared.Shaped.{Shaped}
-use Rattle.sql_lexer.specs.declared.Shaped.TheVariants.{Done}
 use Rattle.sql_lexer.proofs.Same.{kept_same, put_same, sanitised_same}
 use Rattle.sql_lexer.proofs.Content.{Apart, apart}
 use Rattle.demands.specs.Terms.{Fit, tokens_of, sanitized_of, at, Survives, text_at, Alike, but_stop, shape_in, Quote, Closes}
@@ -101,7 +104,7 @@ but_stop_lem text slots out f = ap but_stop (fit_answer text slots out f) ∙ fr
     from false false = refl
 
 -- the shape at the front of the output
-shape_in_lem : (text ws out : List ℕ) → Fit text → (r : Shaped) (ws' out' : List ℕ) → SanitizesString text ws out r ws' out'
+shape_in_lem : (text ws out : List ℕ) → Fit text → (r : Result Figures Refusal) (ws' out' : List ℕ) → SanitizesString text ws out r ws' out'
     → shape_in (paper r) out' ≡ cond (ltb (room ws) (length (tokens_of text))) [] (cond (ltb (length out) (length (shape pinned text))) [] (shape pinned text))
 unfolding string_out figures
 shape_in_lem text ws out f r ws' out' p =
@@ -118,7 +121,7 @@ shape_in_lem text ws out f r ws' out' p =
 module _ (x y : List ℕ) (fit-x : Fit x) (fit-y : Fit y) (alike : Alike x y) where
   -- for slots of equal length and outputs of equal length, whatever they hold
   pub same_call : {ws us out put : List ℕ} → length ws ≡ length us → length out ≡ length put
-      → {r s : Shaped} {ws' us' out' put' : List ℕ} → SanitizesString x ws out r ws' out' → SanitizesString y us put s us' put'
+      → {r s : Result Figures Refusal} {ws' us' out' put' : List ℕ} → SanitizesString x ws out r ws' out' → SanitizesString y us put s us' put'
       → (but_stop (paper r) ≡ but_stop (paper s)) × (shape_in (paper r) out' ≡ shape_in (paper s) put')
   same_call {ws} {us} {out} {put} e f {r} {s} {ws'} {us'} {out'} {put'} p q =
       let room_same : room ws ≡ room us = ap (λ (n : ℕ). n / words_per_slot) e in
@@ -135,7 +138,7 @@ module _ (x y : List ℕ) (fit-x : Fit x) (fit-y : Fit y) (alike : Alike x y) wh
       )
 
 -- where a shape was written, it is the shape by the definitions
-done_shape : {text ws out ws' out' : List ℕ} {f : Figures} → SanitizesString text ws out (Done f) ws' out' → take f.length out' ≡ shape pinned text
+done_shape : {text ws out ws' out' : List ℕ} {f : Figures} → SanitizesString text ws out (Ok f) ws' out' → take f.length out' ≡ shape pinned text
 unfolding figures
 done_shape {text} {ws} {out} {ws'} {out'} {f} p =
     let numbers : f.tokens ∷ f.stop.0 ∷ f.exposed ∷ f.length ∷ [] ≡ figures pinned text = ((string_follows p).done_only (f.tokens ∷ f.stop.0 ∷ f.exposed ∷ f.length ∷ []) refl).1 in
@@ -145,11 +148,18 @@ done_shape {text} {ws} {out} {ws'} {out'} {f} p =
 
 -- ---- the second half
 -- a quote is read by rule 1, is ASCII, and its kind is a quoted one
-is_quote : (q k : ℕ) → Quote q k → ((st : State) (cs : List ℕ) → rule_of pinned st q cs ≡ Quoted k) × (q < 0x80) × (kind.is_quoted k ≡ true)
+record Quoting (q k : ℕ) : Type 0 where
+  named : Kind
+  number : number_of named ≡ k
+  read : (st : State) (cs : List ℕ) → rule_of pinned st q cs ≡ Quoted named
+  low : q < 0x80
+  quoted : kind.is_quoted k ≡ true
+
+is_quote : (q k : ℕ) → Quote q k → Quoting q k
 unfolding rule_of kind.is_quoted
-is_quote q k (inl e) = ((λ st cs. rw (e.0, e.1)), omega (arith, e.0), rw e.1)
-is_quote q k (inr (inl e)) = ((λ st cs. rw (e.0, e.1)), omega (arith, e.0), rw e.1)
-is_quote q k (inr (inr e)) = ((λ st cs. rw (e.0, e.1)), omega (arith, e.0), rw e.1)
+is_quote q k (inl e) = record { named = the.Backticked; number = sym e.1; read = (λ st cs. rw e.0); low = omega (arith, e.0); quoted = rw e.1 }
+is_quote q k (inr (inl e)) = record { named = the.SingleQuoted; number = sym e.1; read = (λ st cs. rw e.0); low = omega (arith, e.0); quoted = rw e.1 }
+is_quote q k (inr (inr e)) = record { named = the.DoubleQuoted; number = sym e.1; read = (λ st cs. rw e.0); low = omega (arith, e.0); quoted = rw e.1 }
 
 -- a statement with a quoted part
 abbrev pub quoting : List ℕ → ℕ → List ℕ → List ℕ → List ℕ
@@ -163,7 +173,9 @@ module _ (pre c d post : List ℕ) (q k : ℕ) (quote : Quote q k) (fit-x : Fit 
   content_alike : Alike (quoting pre q c post) (quoting pre q d post)
   content_alike =
       let is = is_quote q k quote in
-      let two = apart pinned q k is.0 is.1 is.2 pre c d post fit-x.valid fit-y.valid i token closes in
+      let two =
+      apart pinned q is.named is.read is.low (ap kind.is_quoted is.number ∙ is.quoted) pre c d post fit-x.valid fit-y.valid i
+      (token ∙ ap (λ (n : ℕ). part_of n (length pre + 1) (length pre + 1 + length c)) (sym is.number)) closes in
       record {
         kinds = two.same_kinds;
         texts = λ j s. from j s (ℕ_discrete j i) two;
@@ -179,6 +191,6 @@ module _ (pre c d post : List ℕ) (q k : ℕ) (quote : Quote q k) (fit-x : Fit 
 
   -- whatever the buffers are: if neither statement is refused, the bytes at the front of the two outputs are the same
   pub any_content_call : {ws us out put ws' us' out' put' : List ℕ} {f g : Figures}
-      → SanitizesString (quoting pre q c post) ws out (Done f) ws' out' → SanitizesString (quoting pre q d post) us put (Done g) us' put'
+      → SanitizesString (quoting pre q c post) ws out (Ok f) ws' out' → SanitizesString (quoting pre q d post) us put (Ok g) us' put'
       → take f.length out' ≡ take g.length put'
   any_content_call p r = done_shape p ∙ any_content ∙ sym (done_shape r)

@@ -5,6 +5,8 @@
 -- same_write   `write` answers the same: the same refusal 7 with the same detail, or the same length; and leaves the same text
 -- slots_suffice   with as many slots as bytes the condition of refusal 3 does not hold
 -- Assumes nothing.
+use Rattle.std.specs.Prelude.{Result}
+use Rattle.tokens.specs.declared.refusal.Refusal.{Refusal}
 use mathlib.Core.Path.{◌≡◌, refl, sym, ap, ◌∙◌}
 use mathlib.Core.Bool.{Bool, true, false, cond}
 use mathlib.Core.List.{List, [], ◌∷◌}
@@ -29,7 +31,6 @@ use Rattle.sanitizer.proofs.Keeping.{accepted_sanitized}
 use Rattle.writer.specs.Written.{written, onto}
 use Rattle.writer.specs.Promise as writer
 use Rattle.writer.specs.Promise.{check_cuts, check_out, write_answer, Writes}
-use Rattle.writer.specs.declared.Wrote.{Wrote}
 use Rattle.sql_lexer.specs.Promise.{sanitized_tokens, shape}
 use Rattle.sql_lexer.proofs.Uncut.{reading_uncut, sanitised_uncut, uncut_fine}
 use Rattle.demands.specs.Terms.{Fit, tokens_of, sanitized_of, Alike, but_stop, text_in}
@@ -72,7 +73,7 @@ text_in_lem (done ns) w out = from (ltb (length out) (length w))
     from false = take-append_seam w (drop (length w) out) ∙ sym (take-length w)
 
 module _ (x y : List ℕ) (fit-x : Fit x) (fit-y : Fit y) (alike : Alike x y) where
-  pub same_read : {ws us : List ℕ} → length ws ≡ length us → {r s : Lexed} {ws' us' : List ℕ} → Lexes x ws r ws' → Lexes y us s us'
+  pub same_read : {ws us : List ℕ} → length ws ≡ length us → {r s : Result Lexed Refusal} {ws' us' : List ℕ} → Lexes x ws r ws' → Lexes y us s us'
       → but_stop (lexer.paper r) ≡ but_stop (lexer.paper s)
   same_read {ws} {us} e p q =
       let n : ℕ = length (tokens_of x) in
@@ -84,7 +85,7 @@ module _ (x y : List ℕ) (fit-x : Fit x) (fit-y : Fit y) (alike : Alike x y) wh
   -- for slots of equal length whose first n hold the sanitised tokens, and outputs of equal length
   pub same_write : {ws us out put : List ℕ} {n : ℕ} → length ws ≡ length us → length out ≡ length put
       → tokens_in ws n ≡ sanitized_of x → tokens_in us n ≡ sanitized_of y
-      → {r s : Wrote} {out' put' : List ℕ} → Writes x ws n out r out' → Writes y us n put s put'
+      → {r s : Result ℕ Refusal} {out' put' : List ℕ} → Writes x ws n out r out' → Writes y us n put s put'
       → (writer.paper r ≡ writer.paper s) × (text_in (writer.paper r) out' ≡ text_in (writer.paper s) put')
   unfolding check_count shape sanitized_tokens
   same_write {ws} {us} {out} {put} {n} e f hx hy {r} {s} {out'} {put'} p q =
@@ -97,7 +98,7 @@ module _ (x y : List ℕ) (fit-x : Fit x) (fit-y : Fit y) (alike : Alike x y) wh
       let right : text_in (writer.paper s) put' ≡ text_in (writer.paper s) (shape pinned y) = shown y us put fit-y hy q in
       (same, left ∙ ap (λ (a : Answer). text_in a (shape pinned x)) same ∙ ap (text_in (writer.paper s)) (same_shape x y alike) ∙ sym right)
     where
-      shown : (text zs room : List ℕ) → Fit text → tokens_in zs n ≡ sanitized_of text → {a : Wrote} {left : List ℕ} → Writes text zs n room a left
+      shown : (text zs room : List ℕ) → Fit text → tokens_in zs n ≡ sanitized_of text → {a : Result ℕ Refusal} {left : List ℕ} → Writes text zs n room a left
           → text_in (writer.paper a) left ≡ text_in (writer.paper a) (shape pinned text)
       shown text zs room f h {a} {left} promise =
           let answered : writer.paper a ≡ (check_count zs n then check_out (length (shape pinned text)) (length room)) = promise.answer ∙ fit_write text zs n (length room) f h in

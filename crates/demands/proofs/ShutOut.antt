@@ -5,6 +5,7 @@
 -- first_only        one that replaces only the first value
 -- invented_exposed, invented_tokens, invented_length   an invented exposed count or room
 -- Assumes nothing.
+use Rattle.std.specs.Prelude.{Ok, Err}
 use mathlib.Core.Path.{◌≡◌, refl, sym, ap, ◌∙◌}
 use mathlib.Core.List.{List, [], ◌∷◌}
 use mathlib.Core.Logic.{inl, inr}
@@ -36,12 +37,9 @@ use Rattle.sanitizer.specs.Run as sanitizer
 use Rattle.sanitizer.specs.Run.{sanitized, turn, turn_by, blank}
 use Rattle.sanitizer.specs.Exposed.{exposed}
 use Rattle.sanitizer.specs.Promise.{Sanitizes}
-use Rattle.sanitizer.specs.declared.Sanitized.TheVariants as sanitizes
 use Rattle.lexer.specs.Lexes.{Lexes}
-use Rattle.lexer.specs.declared.lex.Lexed.TheVariants as lexes
 use Rattle.writer.specs.Written.{token_text, written}
 use Rattle.sql_lexer.specs.Promise.{sanitized_tokens, shape, figures, SanitizesString}
-use Rattle.sql_lexer.specs.declared.Shaped.TheVariants as shapes
 use Rattle.demands.specs.Terms.{tokens_of}
 use Rattle.demands.specs.Tables.{Refuses, Clear, lex_table, string_table}
 use Rattle.demands.proofs.Demand1.{lex_follows, sanitize_follows, string_follows}
@@ -60,7 +58,7 @@ empty_clear : Clear (string_table [] [] [])
 unfolding first_bad bad_from shape written sanitized_tokens reading go chars chars_from sanitized sanitizer.run
 empty_clear = ((λ d h. omega (arith, h.0)), ((λ d h. clash (cc)), ((λ d h. omega (arith, h.0)), ((λ d h. omega (arith, h.0)), tt))))
 
-pub always_refuses : {r : Refusal} {ws out : List ℕ} → SanitizesString [] [] [] (shapes.Refused r) ws out → ⊥
+pub always_refuses : {r : Refusal} {ws out : List ℕ} → SanitizesString [] [] [] (Err r) ws out → ⊥
 always_refuses {r} {ws} {out} p = not_done r (figures pinned []) ((string_follows p).done_when empty_clear)
 
 -- two rows of document 01's table have two shapes
@@ -87,10 +85,10 @@ unfolding chars chars_from front joined ranged follows is_scalar width encode en
 first_only e = let y : ◌≡◌ {A = ℕ} 63 50 = ap (λ (l : List ℕ). get_or l 14 0) e in omega arith
 
 -- a count is a count of the definitions, a room needed is a length
-pub invented_exposed : {ws left : List ℕ} {n e : ℕ} → Sanitizes ws n (sanitizes.Done e) left → e ≡ exposed (sanitized (tokens_in ws n))
+pub invented_exposed : {ws left : List ℕ} {n e : ℕ} → Sanitizes ws n (Ok e) left → e ≡ exposed (sanitized (tokens_in ws n))
 invented_exposed {ws} {left} {n} {e} p = ap (λ (ns : List ℕ). get_or ns 0 0) ((sanitize_follows p).done_only (e ∷ []) refl).1
 
-pub invented_tokens : {text ws left : List ℕ} {d : ℕ} → Lexes text ws (lexes.Refused (NoRoomTokens d)) left → d ≡ length (tokens_of text)
+pub invented_tokens : {text ws left : List ℕ} {d : ℕ} → Lexes text ws (Err (NoRoomTokens d)) left → d ≡ length (tokens_of text)
 invented_tokens {text} {ws} {left} {d} p = from ((lex_follows p).refused_only 3 d refl)
   where
     from : Refuses (lex_table text ws) 3 d → d ≡ length (tokens_of text)
@@ -99,7 +97,7 @@ invented_tokens {text} {ws} {left} {d} p = from ((lex_follows p).refused_only 3 
     from (inr (_, inr (_, inl r))) = r.1.1
     from (inr (_, inr (_, inr (_, r)))) = absurd r
 
-pub invented_length : {text ws out left left' : List ℕ} {d : ℕ} → SanitizesString text ws out (shapes.Refused (NoRoomOut d)) left left' → d ≡ length (shape pinned text)
+pub invented_length : {text ws out left left' : List ℕ} {d : ℕ} → SanitizesString text ws out (Err (NoRoomOut d)) left left' → d ≡ length (shape pinned text)
 invented_length {text} {ws} {out} {left} {left'} {d} p = from ((string_follows p).refused_only 7 d refl)
   where
     from : Refuses (string_table text ws out) 7 d → d ≡ length (shape pinned text)
