@@ -1,5 +1,4 @@
 -- Hexadecimal written.
--- low, high          the two digits
 -- text_append        bytes joined, text joined
 -- text_long          two characters a byte
 -- set_put            one store is a copy of one byte
@@ -9,25 +8,15 @@
 -- Assumes nothing.
 use mathlib.Core.Path.{◌≡◌, refl, sym, ap, ◌∙◌}
 use mathlib.Core.List.{List, [], ◌∷◌, ◌++◌, append_assoc}
-use Prim.Native.Nat.{ℕ, suc, ◌+◌, ◌-◌, ◌*◌, ◌/◌, ◌%◌, ◌≤◌, ◌<◌}
+use Prim.Native.Nat.{ℕ, suc, ◌+◌, ◌*◌, ◌/◌, ◌%◌, ◌≤◌, ◌<◌}
 use native.Mathlib.Numerals.{add-one}
 use native.Mathlib.Omega.{arith}
 use lib.ListN.{length, get_or, set, take, drop, length-set, length-append}
 use lib.Seq.{append_snoc, take-suc, set_split, take_at, length-take-le}
-use borrow.Author.Tests.{lt-ltb, le-ltb}
 use Rattle.writer.specs.Promise.{Put}
 use Rattle.writer.proofs.Puts.{put_as, put_then}
 use Rattle.frames.specs.Hex.{hex_digit, hex_text}
 use Rattle.frames.specs.Frames.{Shown, big_endian, head, printed}
-
-module _ (v : ℕ) where
-  pub low : v < 10 → hex_digit v ≡ v + 48
-  unfolding hex_digit
-  low h = simp (lt-ltb v 10 h)
-
-  pub high : 10 ≤ v → hex_digit v ≡ v - 10 + 97
-  unfolding hex_digit
-  high h = simp (le-ltb v 10 h)
 
 pub text_append : (xs ys : List ℕ) → hex_text (xs ++ ys) ≡ hex_text xs ++ hex_text ys
 unfolding hex_text

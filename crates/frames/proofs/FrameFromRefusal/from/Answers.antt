@@ -1,9 +1,9 @@
--- `frames::refusal_frame` meets its contract, by its seven cases. Assumes nothing.
+-- `frames::FrameFromRefusal::from` meets its contract, by its seven cases. Assumes nothing.
 use mathlib.Core.Path.{sym, ap, ◌∙◌}
 use Rattle.tokens.specs.Answers.{refusal}
 use Rattle.tokens.specs.declared.refusal.Refusal.{Refusal}
 use Rattle.frames.specs.Frames.{framed, in_numbers}
-use Rattle.frames.proofs.refusal_frame.Goals as goal
+use Rattle.frames.proofs.FrameFromRefusal.from.Goals as goal
 
 pub returns-in-TextTooLong : goal.returns-in-TextTooLong
 returns-in-TextTooLong c text = c.refused_frame.ensures text ∙ sym (ap (λ (r : Refusal). in_numbers (framed text (refusal r))) c.in-TextTooLong.is)
