@@ -1,74 +1,84 @@
-// The page that frames are collected in, and how it is written.
-ghost use Rattle.std.specs.Prelude.{◌≡◌, ◌+◌, ◌≤◌, true, length};
+// The page that frames are collected in, and how its bytes are written.
+ghost use Rattle.std.specs.Prelude.{◌≡◌, ◌+◌, ◌≤◌, List, ℕ, [], ◌++◌, true, false, length, take};
+ghost use Rattle.frames.specs.Frames.{frame_of, printed, longest};
 ghost use Rattle.shape.specs.Fits.{page_room};
-ghost use Rattle.shape.specs.Passes.{wrote, Flushes, MakesRoom};
 
-use crate::Held;
+use frames::{Work, print_frame};
 use std::io::{Print, Stdout};
+use std::marker::Model;
 
-// The most bytes of a page that leave room for the longest frame, 32,779 bytes.
-const FULL: usize = 65536 - 32779;
+// The bytes of a page, and of the longest frame.
+const ROOM: usize = 65536;
 
-// One write of the bytes from `from` up to `to`: how many of them it took. None where it failed.
-fn write_some(stdout: Stdout, page: &[u8], from: usize, to: usize) -> usize
-    requires { (from ≤ to) × (to ≤ length page.now) }
-    ensures { from + result ≤ to }
-{
-    match stdout.write_some(&page[from..to]) {
-        Ok(took) => took,
-        Err(_) => 0,
+const LONGEST: usize = 32779;
+
+#[derive(Drop)]
+pub struct Page {
+    bytes: [u8; ROOM],
+    count: usize,
+}
+
+impl Model for Page {
+    ghost use Rattle.std.specs.Prelude.{List, ℕ, ◌≤◌, take};
+
+    ghost Value = { List ℕ };
+
+    ghost view = { λ p. take p.count p.bytes };
+
+    ghost invariant = { λ p. p.count ≤ 65536 };
+}
+
+impl Page {
+    pub fn new() -> Page
+        ensures { result ≡ [] }
+    {
+        Page {
+            bytes: [0; ROOM],
+            count: 0,
+        }
+    }
+
+    pub fn as_slice(&self) -> &[u8]
+        ensures { result.now ≡ self.now }
+    {
+        &self.bytes[..self.count]
+    }
+
+    pub fn clear(&mut self)
+        ensures { self.new ≡ [] }
+    {
+        self.count = 0;
+    }
+
+    // The longest frame may not fit behind what the page has.
+    pub fn is_full(&self) -> bool
+        ensures { result ≡ false → length self.now + longest ≤ page_room }
+    {
+        ROOM - LONGEST < self.count
+    }
+
+    // Prints the frame of a line behind what the page has.
+    pub fn print(&mut self, line: &[u8], work: &mut Work)
+        requires { length self.old + longest ≤ page_room }
+        ensures { self.new ≡ self.old ++ printed (frame_of line.now) }
+    {
+        self.count = print_frame(line, work, &mut self.bytes, self.count);
     }
 }
 
-// Writes the first `count` bytes: how many of them the writes took, which is all unless one failed. Where one has failed before, none is made.
-fn write_out(stdout: Stdout, page: &[u8], count: usize, lost: bool) -> usize
-    requires { count ≤ length page.now }
-    ensures { (result ≤ count) × (lost ≡ true → result ≡ 0) }
+// Writes the bytes: how many of them the writes took, which is all unless one failed. Where one has failed before, none is made.
+pub fn write_out(stdout: Stdout, bytes: &[u8], lost: bool) -> usize
+    ensures { (result ≤ length bytes.now) × (lost ≡ true → result ≡ 0) }
 {
     if lost {
         return 0;
     }
     let mut done = 0;
-    while done < count {
-        let took = write_some(stdout, page, done, count);
-        if took == 0 {
-            return done;
+    while done < bytes.len() {
+        match stdout.write_some(&bytes[done..]) {
+            Ok(took) if 0 < took => done += took,
+            _ => return done,
         }
-        done += took;
     }
     done
-}
-
-// What is held once the writes took so many bytes of the page.
-fn after_write(held: Held, took: usize) -> Held
-    ensures { result ≡ wrote held took }
-{
-    Held {
-        line: held.line,
-        page: 0,
-        sent: std::num::wrapping_add_usize(held.sent, took),
-        lost: held.lost || took < held.page,
-        ended: held.ended,
-        failed: held.failed,
-    }
-}
-
-// Writes the page.
-pub fn flush(stdout: Stdout, held: Held, page: &[u8]) -> Held
-    requires { held.page ≤ length page.now }
-    ensures { Flushes held result }
-{
-    let took = write_out(stdout, page, held.page, held.lost);
-    after_write(held, took)
-}
-
-// Writes the page where the longest frame may not fit behind what it has.
-pub fn make_room(stdout: Stdout, held: Held, page: &[u8]) -> Held
-    requires { (held.page ≤ page_room) × (page_room ≤ length page.now) }
-    ensures { MakesRoom held result }
-{
-    if held.page <= FULL {
-        return held;
-    }
-    flush(stdout, held, page)
 }
