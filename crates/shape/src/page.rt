@@ -73,12 +73,12 @@ pub fn write_out(stdout: Stdout, bytes: &[u8], lost: bool) -> usize
     if lost {
         return 0;
     }
-    let mut done = 0;
-    while done < bytes.len() {
-        match stdout.write_some(&bytes[done..]) {
-            Ok(took) if 0 < took => done += took,
-            _ => return done,
+    let mut left = bytes;
+    while !left.is_empty() {
+        match stdout.write_some(left) {
+            Ok(took) if 0 < took => left = &left[took..],
+            _ => break,
         }
     }
-    done
+    bytes.len() - left.len()
 }

@@ -2,9 +2,9 @@
 use native.Mathlib.Omega.{arith}
 use lib.ListN.{take}
 use lib.Seq.{length-take-le}
-use Rattle.writer.proofs.Puts.{put_then}
+use Rattle.writer.proofs.Puts.{put_one, put_then}
 use Rattle.frames.specs.Frames.{printed}
-use Rattle.frames.proofs.Printing.{text_long, head_long, set_put}
+use Rattle.frames.proofs.Printing.{text_long, head_long}
 use Rattle.frames.proofs.put_frame.Goals as goal
 
 pub put_hex-end-requires : goal.put_hex-end-requires
@@ -16,4 +16,4 @@ bounds-page-end c = omega (arith, c.put_hex-end.ensures.next, c.put_head-start.e
 pub returns : goal.returns
 unfolding printed
 returns c =
-    put_then (omega arith) (put_then (omega arith) c.put_head-start.ensures c.put_hex-end.ensures) (set_put _ _ _ (bounds-page-end c))
+    put_then (omega arith) (put_then (omega arith) c.put_head-start.ensures c.put_hex-end.ensures) (put_one _ _ _ (bounds-page-end c))
