@@ -7,11 +7,11 @@
 -- Assumes nothing.
 use mathlib.Core.Path.{◌≡◌, refl, sym, ap, ◌∙◌}
 use mathlib.Core.List.{List, [], ◌∷◌, ◌++◌, append_assoc}
-use Prim.Native.Nat.{ℕ, suc, ◌+◌, ◌*◌, ◌/◌, ◌%◌, ◌≤◌, ◌<◌}
+use Prim.Native.Nat.{ℕ, ◌+◌, ◌*◌, ◌/◌, ◌%◌, ◌≤◌, ◌<◌}
 use native.Mathlib.Numerals.{add-one}
 use native.Mathlib.Omega.{arith}
 use lib.ListN.{length, get_or, set, take, drop, length-set, length-append}
-use lib.Seq.{append_snoc, take-suc, set_split, take_at, length-take-le}
+use lib.Seq.{take-suc, take_at, length-take-le}
 use Rattle.writer.specs.Promise.{Put}
 use Rattle.writer.proofs.Puts.{put_as, put_one, put_then}
 use Rattle.frames.specs.Hex.{hex_digit, hex_text}

@@ -1,3 +1,3 @@
 pub mod Hex
 pub mod Frames
-pub mod Lines
+pub mod Filled

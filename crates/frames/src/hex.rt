@@ -53,6 +53,7 @@ fn hex_digit(v: u8) -> u8
 }
 
 // Bytes as text behind the first `at` bytes of the page: how many there are then.
+// Stays: a place beside the page, here and in those that call this; what may not change: `Put`, and by it `print_unique`, names every byte of it.
 pub fn put_hex(page: &mut [u8], at: usize, bytes: &[u8]) -> usize
     requires { at + length bytes.now * 2 ≤ length page.old }
     ensures { Put page.old at (hex_text bytes.now) result page.new }

@@ -11,6 +11,7 @@ use crate::line::{BadLine, check_line};
 use sql_lexer::{Shaped, sanitize_string};
 use tokens::refusal::Refusal;
 
+pub mod filled;
 pub mod hex;
 pub mod line;
 
@@ -23,6 +24,7 @@ pub struct Work {
 }
 
 // A frame: the status byte, the stop offset or the detail, and how many bytes of the output are the shape.
+// Stays: numbers for the status and the refusal are what a frame is, by document 01; what may not change: `framed`, `frame_of` (specs/Frames.antt).
 #[derive(Clone, Copy)]
 pub struct Frame {
     pub status: u8,
@@ -71,6 +73,7 @@ impl From<Refusal> for Frame {
 }
 
 // The frame of a statement, the first `count` bytes of the text.
+// Stays: a count beside the text; what may not change: `FramesLine` and `frame_unique` name every byte of it, which a type of filled bytes hides.
 fn frame_text(work: &mut Work, count: usize) -> Frame
     requires { count ≤ length work.old.text }
     ensures text_kept { work.new.text ≡ work.old.text }
@@ -111,6 +114,7 @@ fn put_frame(page: &mut [u8], at: usize, shown: Frame, out: &[u8]) -> usize
 }
 
 // The frame of a line, printed behind the first `at` bytes of the page: how many there are then.
+// Stays: a place beside the page; what may not change: `Prints` and `print_unique` name every byte of it. Who needs less calls `print` (filled.rt).
 pub fn print_frame(line: &[u8], work: &mut Work, page: &mut [u8; 65536], at: usize) -> usize
     requires { at + longest ≤ 65536 }
     ensures printed { Prints line.now page.old at result page.new }

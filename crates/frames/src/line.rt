@@ -1,64 +1,18 @@
 // A line as it comes in, and refusal 8: a line that is no statement in hexadecimal.
-ghost use Rattle.std.specs.Prelude.{◌≡◌, ◌≤◌, List, ℕ, [], take};
+ghost use Rattle.std.specs.Prelude.{◌≡◌};
 ghost use Rattle.frames.specs.Frames.{check_line, checked};
-ghost use Rattle.frames.specs.Lines.{Keeps};
 
+use crate::filled::Filled;
 use crate::hex::first_not_hex;
-use std::marker::Model;
 
 // The most characters of a line.
 pub const LIMIT: usize = 16384;
 
 // One more than that.
-const ROOM: usize = LIMIT + 1;
+pub const ROOM: usize = LIMIT + 1;
 
 // The characters of a line, as they come. A longer line has the same frame whatever follows its last character here, so that is dropped.
-#[derive(Drop)]
-pub struct Line {
-    chars: [u8; ROOM],
-    count: usize,
-}
-
-impl Model for Line {
-    ghost Value = { List ℕ };
-
-    ghost view = { λ l. take l.count l.chars };
-
-    ghost invariant = { λ l. l.count ≤ 16385 };
-}
-
-impl Line {
-    pub fn new() -> Line
-        ensures { result ≡ [] }
-    {
-        Line {
-            chars: [0; ROOM],
-            count: 0,
-        }
-    }
-
-    pub fn as_slice(&self) -> &[u8]
-        ensures { result.now ≡ self.now }
-    {
-        &self.chars[..self.count]
-    }
-
-    pub fn clear(&mut self)
-        ensures { self.new ≡ [] }
-    {
-        self.count = 0;
-    }
-
-    // Keeps a character, where there is room.
-    pub fn keep(&mut self, c: u8)
-        ensures { Keeps self.old c self.new }
-    {
-        if self.count < ROOM {
-            self.chars[self.count] = c;
-            self.count += 1;
-        }
-    }
-}
+pub type Line = Filled<ROOM>;
 
 // Refusal 8, by its detail.
 #[derive(Clone, Copy)]

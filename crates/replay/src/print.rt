@@ -1,4 +1,5 @@
 // An answer as a line: its six numbers, then every word of the slots lent, then every byte of the output lent, in hexadecimal.
+// Stays: a place beside the page, as in `put_hex` (crate frames), which all of these call.
 ghost use Rattle.std.specs.Prelude.{◌≡◌, ◌+◌, ◌*◌, ◌≤◌, length};
 
 use frames::hex::put_hex;
@@ -49,7 +50,14 @@ fn put_numbers(page: &mut [u8], answer: HayAnswer) -> usize
     ensures { result ≡ 48 }
 {
     let mut end = 0;
-    for number in [answer.refusal, answer.detail, answer.tokens, answer.stop, answer.exposed, answer.length] {
+    for number in [
+        answer.refusal,
+        answer.detail,
+        answer.tokens,
+        answer.stop,
+        answer.exposed,
+        answer.length,
+    ] {
         end = put_number(page, end, number);
     }
     end

@@ -10,7 +10,7 @@
 use Rattle.std.proofs.Common.{◌≡◌, ℕ, suc, ◌<◌, ◌≤◌, Bool, true, false, cond, eqb, ltb, List, [], ◌∷◌, ◌++◌, length, sym, refl, ap, ◌∙◌, append_assoc, append-nil, arith, length-append, ltb-false, ltb-true, eqb-true, eq-eqb, ne_eqb}
 use Prim.Native.Char.{code}
 use Rattle.frames.specs.Frames.{line_limit, frame_of, printed}
-use Rattle.frames.specs.Lines.{Keeps}
+use Rattle.frames.specs.Filled.{Keeps}
 use Rattle.frames.proofs.Longer.{longer}
 use Rattle.shape.specs.declared.Held.{Held}
 use Rattle.shape.specs.declared.input.Input.{Input}
@@ -65,7 +65,7 @@ module _ {c : ℕ} {h r : Held} (still : Still h r) where
             ∙ ap (λ (t : List ℕ). h.page ++ t) (sym (due_lf ended h.line c cs e));
       }
 
-  pub takes_kept : (c ≡ 10 → ⊥) → r.page ≡ h.page → Keeps h.line c r.line → Takes c h r
+  pub takes_kept : (c ≡ 10 → ⊥) → r.page ≡ h.page → Keeps (suc line_limit) h.line c r.line → Takes c h r
   takes_kept n e k = record {
     still = still;
     same = λ ended cs.
@@ -79,7 +79,7 @@ module _ {c : ℕ} {h r : Held} (still : Still h r) where
           → due ended r.line cs ≡ due ended (h.line ++ (c ∷ [])) cs
       go ended cs true lt le = ap (λ (t : List ℕ). due ended t cs) (k.kept (lt refl))
       go ended cs false lt le =
-          ap (λ (t : List ℕ). due ended t cs) (k.full (omega (arith, le refl)))
+          ap (λ (t : List ℕ). due ended t cs) (k.full (le refl))
           ∙ due_long ended cs h.line (h.line ++ (c ∷ [])) (omega (arith, le refl)) (omega (arith, le refl, length-append h.line (c ∷ [])))
 
 -- a line that has begun is ended by the end of the input

@@ -8,7 +8,7 @@ ghost use Rattle.shape.specs.Fits.{Still, page_room, has_ended, whole, Takes, En
 ghost use Rattle.shape.specs.Passes.{wrote, Flushes, MakesRoom, Passes, Took, Reads, Closes, Runs};
 
 use crate::input::{Input, read_some};
-use crate::page::{Page, write_out};
+use crate::page::{FULL, Page, write_out};
 use frames::Work;
 use frames::line::Line;
 use std::io::{Print, Stderr, Stdin, Stdout};
@@ -17,6 +17,7 @@ mod input;
 mod page;
 
 // How the run stands: how many bytes the writes took, as a counter of 64 bits; whether one took fewer than it was to; and what the reads did.
+// Stays: `lost` is a flag beside a number; no plainer otherwise: after a loss the count still stands, so no variant would hold another value.
 #[derive(Clone, Copy)]
 struct Stand {
     sent: usize,
@@ -55,7 +56,7 @@ impl Held {
     fn make_room(&mut self, stdout: Stdout)
         ensures { MakesRoom self.old self.new }
     {
-        if self.page.is_full() {
+        if FULL < self.page.as_slice().len() {
             self.flush(stdout);
         }
     }
