@@ -9,7 +9,7 @@ use crate::hex::first_not_hex;
 pub const LIMIT: usize = 16384;
 
 // One more than that.
-pub const ROOM: usize = LIMIT + 1;
+const ROOM: usize = LIMIT + 1;
 
 // The characters of a line, as they come. A longer line has the same frame whatever follows its last character here, so that is dropped.
 pub type Line = Filled<ROOM>;
