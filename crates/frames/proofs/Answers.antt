@@ -1,8 +1,9 @@
 -- The cases of a line's answer, and its frame.
--- too_long, not_hex, odd, passes      check_line
+-- too_long                            check_line of a line over the limit
 -- line_passes                         it finds nothing: the line is short and each character hexadecimal
 -- shown_output                        a refusal's frame has no shape, and the output is as it was
 -- figures_are                         where the one call is done, its numbers are the figures
+-- framed_as                           the frame of a refusal, which is one of the seven
 -- shaped_frame, refused_text          the frame of a statement
 -- fine-line, bad_line_lem                 the frame of a line
 -- shown_fits, shown_back              the shape at the front of the output
@@ -16,7 +17,7 @@ use native.Mathlib.Omega.{arith}
 use lib.Dec.{eqb, ltb}
 use lib.ListN.{length, get_or, take, drop, length-append}
 use lib.Seq.{take-append_seam, take_at}
-use borrow.Author.Tests.{lt-ltb, le-ltb, ltb-false, eq-eqb, ne_eqb}
+use borrow.Author.Tests.{lt-ltb, ltb-false}
 use Rattle.chars.proofs.Scalars.{clash}
 use Rattle.tokens.specs.Answers.{Answer, done, refused, refusal}
 use Rattle.tokens.specs.Checks.{◌then◌, fine, afterwards}
@@ -40,18 +41,6 @@ module _ (line : List ℕ) where
   unfolding check_line
   too_long h = simp (lt-ltb line_limit (length line) h)
 
-  pub not_hex : length line ≤ line_limit → first_not_hex line < length line → check_line line ≡ bad_line (first_not_hex line)
-  unfolding check_line
-  not_hex h g = simp (le-ltb line_limit (length line) h, lt-ltb (first_not_hex line) (length line) g)
-
-  pub odd : length line ≤ line_limit → length line ≤ first_not_hex line → length line % 2 ≡ 1 → check_line line ≡ bad_line (length line)
-  unfolding check_line
-  odd h g e = simp (le-ltb line_limit (length line) h, le-ltb (first_not_hex line) (length line) g, eq-eqb (length line % 2) 1 e)
-
-  pub passes : length line ≤ line_limit → length line ≤ first_not_hex line → (length line % 2 ≡ 1 → ⊥) → check_line line ≡ fine
-  unfolding check_line
-  passes h g e = simp (le-ltb line_limit (length line) h, le-ltb (first_not_hex line) (length line) g, ne_eqb (length line % 2) 1 e)
-
   pub line_passes : fine ≡ check_line line → (length line ≤ line_limit) × (first_not_hex line ≡ length line)
   unfolding check_line
   line_passes e = go (ltb line_limit (length line)) (ltb (first_not_hex line) (length line)) refl refl e
@@ -64,6 +53,9 @@ module _ (line : List ℕ) where
       go false false p q f =
           let l : length line ≤ first_not_hex line = ltb-false (first_not_hex line) (length line) q in
           (ltb-false line_limit (length line) p, omega (arith, hex_le line))
+
+pub framed_as : (text : List ℕ) {why r : Refusal} {f : Frame} → f ≡ in_numbers (framed text (refusal r)) → why ≡ r → f ≡ in_numbers (framed text (refusal why))
+framed_as text e is = rw is e
 
 pub shown_output : (text out : List ℕ) (a : Answer) → afterwards a (onto (shape pinned text) out) out ≡ onto (framed text a).shape out
 shown_output text out (done ns) = refl

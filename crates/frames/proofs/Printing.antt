@@ -1,33 +1,21 @@
 -- Hexadecimal written.
--- low, high          the two digits
 -- text_append        bytes joined, text joined
 -- text_long          two characters a byte
--- set_put            one store is a copy of one byte
 -- put_front          what the front of a page holds after a copy
 -- head_long, printed_long   the length of a printed frame
 -- put_more           one more byte as text
 -- Assumes nothing.
 use mathlib.Core.Path.{◌≡◌, refl, sym, ap, ◌∙◌}
 use mathlib.Core.List.{List, [], ◌∷◌, ◌++◌, append_assoc}
-use Prim.Native.Nat.{ℕ, suc, ◌+◌, ◌-◌, ◌*◌, ◌/◌, ◌%◌, ◌≤◌, ◌<◌}
+use Prim.Native.Nat.{ℕ, ◌+◌, ◌*◌, ◌/◌, ◌%◌, ◌≤◌, ◌<◌}
 use native.Mathlib.Numerals.{add-one}
 use native.Mathlib.Omega.{arith}
 use lib.ListN.{length, get_or, set, take, drop, length-set, length-append}
-use lib.Seq.{append_snoc, take-suc, set_split, take_at, length-take-le}
-use borrow.Author.Tests.{lt-ltb, le-ltb}
+use lib.Seq.{take-suc, take_at, length-take-le}
 use Rattle.writer.specs.Promise.{Put}
-use Rattle.writer.proofs.Puts.{put_as, put_then}
+use Rattle.writer.proofs.Puts.{put_as, put_one, put_then}
 use Rattle.frames.specs.Hex.{hex_digit, hex_text}
 use Rattle.frames.specs.Frames.{Shown, big_endian, head, printed}
-
-module _ (v : ℕ) where
-  pub low : v < 10 → hex_digit v ≡ v + 48
-  unfolding hex_digit
-  low h = simp (lt-ltb v 10 h)
-
-  pub high : 10 ≤ v → hex_digit v ≡ v - 10 + 97
-  unfolding hex_digit
-  high h = simp (le-ltb v 10 h)
 
 pub text_append : (xs ys : List ℕ) → hex_text (xs ++ ys) ≡ hex_text xs ++ hex_text ys
 unfolding hex_text
@@ -38,12 +26,6 @@ pub text_long : (bs : List ℕ) → length (hex_text bs) ≡ length bs * 2
 unfolding hex_text
 text_long [] = refl
 text_long (b ∷ bs) = omega (arith, text_long bs)
-
-pub set_put : (l : List ℕ) (i v : ℕ) → i < length l → Put l i (v ∷ []) (i + 1) (set l i v)
-set_put l i v h = record {
-  next = refl;
-  left = set_split l i v h ∙ sym (append_snoc (take i l) v (drop (suc i) l)) ∙ ap (λ (k : ℕ). take i l ++ (v ∷ []) ++ drop k l) (sym (add-one i));
-}
 
 -- the front of a page after a copy
 pub put_front : {out : List ℕ} {at : ℕ} {s : List ℕ} {r : ℕ} {out' : List ℕ} → at ≤ length out → Put out at s r out' → take r out' ≡ take at out ++ s
@@ -78,9 +60,9 @@ module _ (page₀ page bytes : List ℕ) (at end i : ℕ) (p : Put page₀ at (h
       → Put page₀ at (hex_text (take (i + 1) bytes)) (end + 2) (set (set page end d) (end + 1) e)
   put_more d e ed ee h g k =
       let s : List ℕ = hex_text (take i bytes) in
-      let first : Put page₀ at (s ++ (d ∷ [])) (end + 1) (set page end d) = put_then g p (set_put page end d (omega arith)) in
+      let first : Put page₀ at (s ++ (d ∷ [])) (end + 1) (set page end d) = put_then g p (put_one page end d (omega arith)) in
       let both : Put page₀ at (s ++ (d ∷ []) ++ (e ∷ [])) (end + 1 + 1) (set (set page end d) (end + 1) e) =
-      put_then g first (set_put (set page end d) (end + 1) e (omega (arith, length-set page end d))) in
+      put_then g first (put_one (set page end d) (end + 1) e (omega (arith, length-set page end d))) in
       let same : hex_text (take (i + 1) bytes) ≡ s ++ (d ∷ []) ++ (e ∷ []) =
       text_more bytes i h ∙ ap (λ (l : List ℕ). s ++ l) (ap (λ (x : ℕ). x ∷ hex_digit (get_or bytes i 0 % 16) ∷ []) (sym ed) ∙ ap (λ (x : ℕ). d ∷ x ∷ []) (sym ee)) ∙ sym (append_assoc s (d ∷ []) (e ∷ [])) in
       let q = put_as same both in

@@ -1,5 +1,5 @@
 -- The frame of a line (document 01, "The program"). Assumes nothing.
-use Rattle.std.specs.Prelude.{◌≡◌, cond, List, [], ◌∷◌, ◌++◌, ℕ, ◌+◌, ◌/◌, ◌%◌, ◌≤◌, eqb, ltb, length, get_or, take}
+use Rattle.std.specs.Prelude.{◌≡◌, cond, Result, Ok, Err, List, [], ◌∷◌, ◌++◌, ℕ, ◌+◌, ◌/◌, ◌%◌, ◌≤◌, eqb, ltb, length, get_or, take}
 use Prim.Native.Char.{code}
 use Rattle.tokens.specs.Answers.{Answer, done, refused}
 use Rattle.tokens.specs.Checks.{◌then◌, fine, afterwards}
@@ -8,8 +8,7 @@ use Rattle.writer.specs.Written.{onto}
 use Rattle.writer.specs.Promise.{Put}
 use Rattle.sql_lexer.specs.Promise.{shape, string_answer, string_slots}
 use Rattle.frames.specs.Hex.{first_not_hex, hex_bytes, hex_text}
-use Rattle.frames.specs.declared.line.Line.{Line}
-use Rattle.frames.specs.declared.line.Line.TheVariants.{Fine, Bad}
+use Rattle.frames.specs.declared.line.BadLine.{BadLine}
 use Rattle.frames.specs.declared.Frame.{Frame}
 
 -- the most characters of a line
@@ -28,9 +27,9 @@ check_line line =
     (cond (eqb (length line % 2) 1) (bad_line (length line)) fine))
 
 -- the code's answer to it
-abbrev pub checked : Line → Answer
-checked Fine = fine
-checked (Bad d) = bad_line d
+abbrev pub checked : Result (Unit {0}) BadLine → Answer
+checked (Ok _) = fine
+checked (Err b) = bad_line b.0
 
 -- the answer to a line: refusal 8, or the one call's to its bytes, with room for 4,096 tokens and 16,384 bytes of output
 unfoldable pub line_answer : List ℕ → Answer

@@ -1,5 +1,5 @@
 -- Hexadecimal: what a character stands for, the bytes of a line, and bytes as text. Assumes nothing.
-use Rattle.std.specs.Prelude.{Bool, cond, ◌&&◌, List, [], ◌∷◌, ℕ, suc, ◌+◌, ◌-◌, ◌*◌, ◌/◌, ◌%◌, leb, ltb}
+use Rattle.std.specs.Prelude.{Bool, cond, Option, Some, None, ◌&&◌, List, [], ◌∷◌, ℕ, suc, ◌+◌, ◌-◌, ◌*◌, ◌/◌, ◌%◌, leb, ltb}
 use Prim.Native.Char.{code}
 
 -- the value of a hexadecimal character, in either letter case; 16 for any other character
@@ -12,6 +12,10 @@ hex_value c =
 -- the character is hexadecimal
 abbrev pub is_hex : ℕ → Bool
 is_hex c = ltb (hex_value c) 16
+
+-- the value of a hexadecimal character, and none for any other
+abbrev pub hex_read : ℕ → Option ℕ
+hex_read c = cond (is_hex c) (Some (hex_value c)) None
 
 -- the place of the first character that is not; the line's length, where each is
 unfoldable pub first_not_hex : List ℕ → ℕ

@@ -1,2 +1,3 @@
 pub mod Hex
 pub mod Frames
+pub mod Filled

@@ -7,14 +7,24 @@ ghost use Rattle.frames.specs.Frames.{read_status, framed, in_numbers, FramesTex
 ghost use Rattle.writer.specs.Promise.{Put};
 
 use crate::hex::{decode, put_head, put_hex};
-use crate::line::{Line, check_line};
+use crate::line::{BadLine, check_line};
 use sql_lexer::{Shaped, sanitize_string};
 use tokens::refusal::Refusal;
 
+pub mod filled;
 pub mod hex;
 pub mod line;
 
+// What is lent for a line: room for its statement, for 4,096 tokens and for the shape.
+#[derive(Drop)]
+pub struct Work {
+    pub text: [u8; 8192],
+    pub slots: [u32; 12288],
+    pub out: [u8; 16384],
+}
+
 // A frame: the status byte, the stop offset or the detail, and how many bytes of the output are the shape.
+// Stays: numbers for the status and the refusal are what a frame is, by document 01; what may not change: `framed`, `frame_of` (specs/Frames.antt).
 #[derive(Clone, Copy)]
 pub struct Frame {
     pub status: u8,
@@ -42,52 +52,53 @@ fn refused_frame(number: u8, detail: usize) -> Frame
 }
 
 // The frame of a refusal.
-fn refusal_frame(why: Refusal) -> Frame
-    ensures { (text : List ℕ) → result ≡ in_numbers (framed text (refusal why)) }
-{
-    match why {
-        Refusal::TextTooLong(length) => refused_frame(1, length),
-        Refusal::NotUtf8(offset) => refused_frame(2, offset.0),
-        Refusal::NoRoomTokens(needed) => refused_frame(3, needed),
-        Refusal::BadCount(room) => refused_frame(4, room),
-        Refusal::BadToken(place) => refused_frame(5, place.0),
-        Refusal::CutChar(place) => refused_frame(6, place.0),
-        Refusal::NoRoomOut(needed) => refused_frame(7, needed),
+impl From<Refusal> for Frame {
+    ghost use Rattle.std.specs.Prelude.{◌≡◌, List, ℕ};
+    ghost use Rattle.tokens.specs.Answers.{refusal};
+    ghost use Rattle.frames.specs.Frames.{framed, in_numbers};
+
+    ghost from_gives = { λ why f. (text : List ℕ) → f ≡ in_numbers (framed text (refusal why)) };
+
+    fn from(why: Refusal) -> Frame {
+        match why {
+            Refusal::TextTooLong(length) => refused_frame(1, length),
+            Refusal::NotUtf8(offset) => refused_frame(2, offset.0),
+            Refusal::NoRoomTokens(needed) => refused_frame(3, needed),
+            Refusal::BadCount(room) => refused_frame(4, room),
+            Refusal::BadToken(place) => refused_frame(5, place.0),
+            Refusal::CutChar(place) => refused_frame(6, place.0),
+            Refusal::NoRoomOut(needed) => refused_frame(7, needed),
+        }
     }
 }
 
 // The frame of a statement, the first `count` bytes of the text.
-fn frame_text(text: &[u8], count: usize, slots: &mut [u32; 12288], out: &mut [u8; 16384]) -> Frame
-    requires { count ≤ length text.now }
-    ensures { FramesText (take count text.now) slots.old out.old result slots.new out.new }
+// Stays: a count beside the text; what may not change: `FramesLine` and `frame_unique` name every byte of it, which a type of filled bytes hides.
+fn frame_text(work: &mut Work, count: usize) -> Frame
+    requires { count ≤ length work.old.text }
+    ensures text_kept { work.new.text ≡ work.old.text }
+    ensures value { FramesText (take count work.old.text) work.old.slots work.old.out result work.new.slots work.new.out }
 {
-    let shaped = sanitize_string(&text[..count], slots, out);
-    match shaped {
+    match sanitize_string(&work.text[..count], &mut work.slots, &mut work.out) {
         Shaped::Done(figures) => Frame {
             status: read_status(figures.stop.0, count),
             number: figures.stop.0,
             length: figures.length,
         },
-        Shaped::Refused(why) => refusal_frame(why),
+        Shaped::Refused(why) => Frame::from(why),
     }
 }
 
 // The frame of a line: the shape lies over the front of the output.
-pub fn frame_line(
-    line: &[u8],
-    text: &mut [u8; 8192],
-    slots: &mut [u32; 12288],
-    out: &mut [u8; 16384],
-) -> Frame
-    ensures { FramesLine line.now text.old slots.old out.old result text.new slots.new out.new }
+pub fn frame_line(line: &[u8], work: &mut Work) -> Frame
+    ensures { FramesLine line.now work.old.text work.old.slots work.old.out result work.new.text work.new.slots work.new.out }
 {
-    let checked = check_line(line);
-    match checked {
-        Line::Fine => {
-            let count = decode(line, text);
-            frame_text(text, count, slots, out)
+    match check_line(line) {
+        Ok(()) => {
+            let count = decode(line, &mut work.text);
+            frame_text(work, count)
         }
-        Line::Bad(detail) => refused_frame(8, detail),
+        Err(BadLine(detail)) => refused_frame(8, detail),
     }
 }
 
@@ -97,23 +108,18 @@ fn put_frame(page: &mut [u8], at: usize, shown: Frame, out: &[u8]) -> usize
     ensures { Put page.old at (printed (shown_over shown out.now)) result page.new }
 {
     let start = put_head(page, at, shown.status, shown.number);
-    let end = put_hex(page, start, out, shown.length);
+    let end = put_hex(page, start, &out[..shown.length]);
     page[end] = b'\n';
     end + 1
 }
 
 // The frame of a line, printed behind the first `at` bytes of the page: how many there are then.
-pub fn print_frame(
-    line: &[u8],
-    text: &mut [u8; 8192],
-    slots: &mut [u32; 12288],
-    out: &mut [u8; 16384],
-    page: &mut [u8; 65536],
-    at: usize,
-) -> usize
+// Stays: a place beside the page; what may not change: `Prints` and `print_unique` name every byte of it. Who needs less calls `print` (filled.rt).
+pub fn print_frame(line: &[u8], work: &mut Work, page: &mut [u8; 65536], at: usize) -> usize
     requires { at + longest ≤ 65536 }
-    ensures { Prints line.now page.old at result page.new × Leaves line.now text.old slots.old out.old text.new slots.new out.new }
+    ensures printed { Prints line.now page.old at result page.new }
+    ensures left { Leaves line.now work.old.text work.old.slots work.old.out work.new.text work.new.slots work.new.out }
 {
-    let shown = frame_line(line, text, slots, out);
-    put_frame(page, at, shown, out)
+    let shown = frame_line(line, work);
+    put_frame(page, at, shown, &work.out)
 }

@@ -1,17 +1,41 @@
-// What a line asks for: the numbers before its words and its text, and whether it is a call.
-ghost use Rattle.std.specs.Prelude.{◌≤◌, length};
+// What a line asks for: the call, and the numbers before its words and its text.
+ghost use Rattle.std.specs.Prelude.{◌≤◌, IfOk, length};
 ghost use Rattle.replay.specs.Room.{Asks};
 
 use crate::lay::number;
+use frames::line::BadLine;
 
-// The calls' numbers.
-pub const LEX: u8 = 1;
+// A line that is no call.
+#[derive(Clone, Copy)]
+pub struct NoCall;
 
-pub const SANITIZE: u8 = 2;
+impl From<BadLine> for NoCall {
+    fn from(_bad: BadLine) -> NoCall {
+        NoCall
+    }
+}
 
-pub const WRITE: u8 = 3;
+#[derive(Clone, Copy)]
+pub enum Call {
+    Lex,
+    Sanitize,
+    Write,
+    SanitizeString,
+}
 
-pub const SANITIZE_STRING: u8 = 4;
+impl TryFrom<u8> for Call {
+    type Error = NoCall;
+
+    fn try_from(byte: u8) -> Result<Call, NoCall> {
+        match byte {
+            1 => Ok(Call::Lex),
+            2 => Ok(Call::Sanitize),
+            3 => Ok(Call::Write),
+            4 => Ok(Call::SanitizeString),
+            _ => Err(NoCall),
+        }
+    }
+}
 
 // The bytes before the words, the most words and bytes lent, and the longest text.
 pub const HEAD: usize = 22;
@@ -20,10 +44,10 @@ const MOST: usize = 1024;
 
 const LONGEST: usize = 1048577;
 
-// The numbers, by the places that main.rt gives.
+// The call and the numbers, by the places that main.rt gives.
 #[derive(Clone, Copy)]
 pub struct Head {
-    pub fine: bool,
+    pub call: Call,
     pub words: usize,
     pub given: usize,
     pub count: usize,
@@ -31,57 +55,26 @@ pub struct Head {
     pub size: usize,
 }
 
-// No call.
-fn no_call() -> Head
-    ensures { Asks result 22 }
+// The head of a line.
+pub fn head_of(bytes: &[u8]) -> Result<Head, NoCall>
+    ensures { IfOk result (λ h. Asks h (length bytes.now)) }
 {
-    Head {
-        fine: false,
-        words: 0,
-        given: 0,
-        count: 0,
-        room: 0,
-        size: 0,
+    if bytes.len() < HEAD {
+        return Err(NoCall);
     }
-}
-
-// The head of a line; one that is no call asks for nothing.
-pub fn head_of(bytes: &[u8]) -> Head
-    requires { 22 ≤ length bytes.now }
-    ensures { Asks result (length bytes.now) }
-{
-    let words = number(bytes, 1) as usize;
-    let given = number(bytes, 5) as usize;
-    let count = number(bytes, 9) as usize;
-    let room = number(bytes, 13) as usize;
-    let size = number(bytes, 17) as usize;
-    if bytes[0] < LEX {
-        return no_call();
+    let head = Head {
+        call: Call::try_from(bytes[0])?,
+        words: number(bytes, 1) as usize,
+        given: number(bytes, 5) as usize,
+        count: number(bytes, 9) as usize,
+        room: number(bytes, 13) as usize,
+        size: number(bytes, 17) as usize,
+    };
+    if MOST < head.words || MOST < head.room || LONGEST < head.size {
+        return Err(NoCall);
     }
-    if SANITIZE_STRING < bytes[0] {
-        return no_call();
+    if head.words < head.given || bytes.len() - HEAD < head.given * 4 {
+        return Err(NoCall);
     }
-    if MOST < words {
-        return no_call();
-    }
-    if words < given {
-        return no_call();
-    }
-    if MOST < room {
-        return no_call();
-    }
-    if LONGEST < size {
-        return no_call();
-    }
-    if bytes.len() - HEAD < given * 4 {
-        return no_call();
-    }
-    Head {
-        fine: true,
-        words: words,
-        given: given,
-        count: count,
-        room: room,
-        size: size,
-    }
+    Ok(head)
 }

@@ -1,15 +1,17 @@
 // An answer as a line: its six numbers, then every word of the slots lent, then every byte of the output lent, in hexadecimal.
+// Stays: a place beside the page, as in `put_hex` (crate frames), which all of these call.
 ghost use Rattle.std.specs.Prelude.{◌≡◌, ◌+◌, ◌*◌, ◌≤◌, length};
 
 use frames::hex::put_hex;
 use sql_lexer_c::HayAnswer;
 
 // The bytes as text behind the first `at` bytes of the page: how many there are then.
+#[tactic(auto, using(frames::proofs::Printing::text_long))]
 fn put_bytes(page: &mut [u8], at: usize, bytes: &[u8]) -> usize
     requires { at + length bytes.now * 2 ≤ length page.old }
     ensures { result ≡ at + length bytes.now * 2 }
 {
-    put_hex(page, at, bytes, bytes.len())
+    put_hex(page, at, bytes)
 }
 
 // A number of four bytes as text, the highest byte first. A greater one, which no answer has, is printed as the greatest.
@@ -17,15 +19,7 @@ fn put_number(page: &mut [u8], at: usize, number: u64) -> usize
     requires { at + 8 ≤ length page.old }
     ensures { result ≡ at + 8 }
 {
-    if 4294967295 < number {
-        return put_bytes(page, at, b"\xff\xff\xff\xff");
-    }
-    let bytes = [
-        (number / 16777216 % 256) as u8,
-        (number / 65536 % 256) as u8,
-        (number / 256 % 256) as u8,
-        (number % 256) as u8,
-    ];
+    let bytes = u32::try_from(number).unwrap_or(u32::MAX).to_be_bytes();
     put_bytes(page, at, &bytes)
 }
 
@@ -38,21 +32,14 @@ fn put_byte(page: &mut [u8], at: usize, byte: u8) -> usize
     at + 1
 }
 
-// A word as a wider number.
-fn wide(word: u32) -> u64 {
-    word as u64
-}
-
 // The words of the slots.
 fn put_words(page: &mut [u8], at: usize, words: &[u32]) -> usize
     requires { at + length words.now * 8 ≤ length page.old }
     ensures { result ≡ at + length words.now * 8 }
 {
     let mut end = at;
-    let mut i = 0;
-    while i < words.len() {
-        end = put_number(page, end, wide(words[i]));
-        i += 1;
+    for &word in words {
+        end = put_number(page, end, u64::from(word));
     }
     end
 }
@@ -62,12 +49,18 @@ fn put_numbers(page: &mut [u8], answer: HayAnswer) -> usize
     requires { 48 ≤ length page.old }
     ensures { result ≡ 48 }
 {
-    let a = put_number(page, 0, answer.refusal);
-    let b = put_number(page, a, answer.detail);
-    let c = put_number(page, b, answer.tokens);
-    let d = put_number(page, c, answer.stop);
-    let e = put_number(page, d, answer.exposed);
-    put_number(page, e, answer.length)
+    let mut end = 0;
+    for number in [
+        answer.refusal,
+        answer.detail,
+        answer.tokens,
+        answer.stop,
+        answer.exposed,
+        answer.length,
+    ] {
+        end = put_number(page, end, number);
+    }
+    end
 }
 
 // The whole line, LF included, from the page's start: how long it is.
@@ -89,10 +82,6 @@ pub fn put_no_call(page: &mut [u8]) -> usize
     ensures { result ≤ length page.new }
 {
     let word = b"no call\n";
-    let mut i = 0;
-    while i < 8 {
-        page[i] = word[i];
-        i += 1;
-    }
-    i
+    page[..word.len()].copy_from_slice(word);
+    word.len()
 }

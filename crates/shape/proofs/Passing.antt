@@ -1,27 +1,19 @@
 -- Chunks taken and pages written.
--- wrote_as        what is held after a write, by its fields
 -- flush_passes, room_passes, takes_passes   a page written, room made, a character taken: nothing is lost or doubled
 -- passes_none, passes_then, passes_more     no chunk, one chunk after the other, one character more
 -- closes_page, passes_closes                the last page, and what passed before it
 -- room_keeps      what making room leaves as it was
--- end_told, failure_told, took_as           a read's answer as the code tests it, and what it gave
 -- Since, since_start, since_read, since_runs   all that was read since the start: the invariant of the loop
 -- Assumes nothing.
-use Rattle.std.proofs.Common.{◌≡◌, ℕ, suc, ◌+◌, ◌-◌, ◌%◌, ◌^◌, ◌≤◌, Bool, true, false, ◌||◌, eqb, ltb, List, [], ◌∷◌, ◌++◌, length, take, drop, ℤ, pos, negsuc, sym, refl, ap, ◌∙◌, subst, ⊎_elim, true≢false, append_assoc, append-nil, arith, length-append, take-append-drop, drop_of_length-le, length-take-le, w64, SFits, to_z, of_z, ltb-false, le-ltb, ne_eqb}
+use Rattle.std.proofs.Common.{◌≡◌, ℕ, ◌+◌, ◌%◌, ◌^◌, ◌≤◌, Bool, true, false, ◌||◌, ltb, List, [], ◌∷◌, ◌++◌, length, take, drop, sym, refl, ap, ◌∙◌, subst, ⊎_elim, true≢false, append_assoc, append-nil, arith, length-append, take-append-drop, drop_of_length-le, length-take-le, ltb-false}
 use native.Mathlib.Nat.{mod-add-mod, mod-mod}
-use mir.ValLaws.{to_z-of_z}
-use lib.Signed.{lt_z}
-use Rattle.shape.specs.Moved.{clamp_len}
 use Rattle.shape.specs.declared.Held.{Held}
+use Rattle.shape.specs.declared.Stand.{Stand}
+use Rattle.shape.specs.declared.input.Input.{Input}
 use Rattle.shape.specs.Due.{due, output}
-use Rattle.shape.specs.Fits.{Fits, whole, Takes, Ends}
-use Rattle.shape.specs.Passes.{Counted, wrote, Flushes, MakesRoom, Passes, is_end, is_failure, Took, Reads, Closes, nothing, Runs}
-
-pub wrote_as : (h : Held) (n : ℕ) {s : ℕ} {b : Bool} → s ≡ (h.sent + n) % 2 ^ 64 → b ≡ h.lost || ltb n h.page
-    → record { line = h.line; page = 0; sent = s; lost = b; ended = h.ended; failed = h.failed } ≡ wrote h n
-wrote_as h n {s} {b} e f =
-    ap (λ (t : ℕ). record { line = h.line; page = 0; sent = t; lost = b; ended = h.ended; failed = h.failed }) e
-    ∙ ap (λ (l : Bool). record { line = h.line; page = 0; sent = (h.sent + n) % 2 ^ 64; lost = l; ended = h.ended; failed = h.failed }) f
+use Rattle.shape.specs.Fits.{has_ended, whole, Takes, Ends}
+use Rattle.shape.specs.Moved.{clamp_len}
+use Rattle.shape.specs.Passes.{Counted, wrote, Flushes, MakesRoom, Passes, Reads, Closes, at_start, Runs}
 
 -- neither holds
 or_false : (a : Bool) {b : Bool} → (a || b) ≡ false → b ≡ false
@@ -40,83 +32,82 @@ counted_then n m k v w e f =
 counted_none : (n : ℕ) → Counted n [] n
 counted_none n = ap (λ (x : ℕ). x % 2 ^ 64) (omega arith)
 
--- a page of n bytes of which the writes took t
-module _ (h : Held) (page : List ℕ) (t : ℕ) (within : t ≤ h.page) (long : h.page ≤ length page) where
+-- a page of which the writes took t bytes
+module _ (h : Held) (t : ℕ) (within : t ≤ length h.page) where
   abbrev taken : List ℕ
-  taken = take t (take h.page page)
+  taken = take t h.page
 
   abbrev over : List ℕ
-  over = drop t (take h.page page)
+  over = drop t h.page
 
-  all_taken : taken ++ over ≡ take h.page page
-  all_taken = take-append-drop t (take h.page page)
+  all_taken : taken ++ over ≡ h.page
+  all_taken = take-append-drop t h.page
 
-  taken_counted : Counted h.sent taken (wrote h t).sent
+  taken_counted : Counted h.stand.sent taken (wrote h t).stand.sent
   taken_counted =
-      mod-mod (h.sent + t) (2 ^ 64)
-      ∙ ap (λ (x : ℕ). (h.sent + x) % 2 ^ 64) (sym (length-take-le t (take h.page page) (omega (arith, length-take-le h.page page long))))
+      mod-mod (h.stand.sent + t) (2 ^ 64)
+      ∙ ap (λ (x : ℕ). (h.stand.sent + x) % 2 ^ 64) (sym (length-take-le t h.page within))
 
-  none_over : (wrote h t).lost ≡ false → over ≡ []
-  none_over e = drop_of_length-le (take h.page page) {i = t} (omega (arith, length-take-le h.page page long, ltb-false t h.page (or_false h.lost e)))
+  none_over : (wrote h t).stand.lost ≡ false → over ≡ []
+  none_over e = drop_of_length-le h.page {i = t} (ltb-false t (length h.page) (or_false h.stand.lost e))
 
   none_taken : t ≡ 0 → taken ≡ []
-  none_taken e = ap (λ (k : ℕ). take k (take h.page page)) e
+  none_taken e = ap (λ (k : ℕ). take k h.page) e
 
-module _ (h : Held) (line page : List ℕ) where
-  wrote_passes : (t : ℕ) → t ≤ h.page → h.page ≤ length page → (h.lost ≡ true → t ≡ 0) → Passes [] h line page (wrote h t) line page
-  wrote_passes t within long silent =
-      let d : Bool → List ℕ → List ℕ = λ ended cs. due ended (take h.line line) cs in
+module _ (h : Held) where
+  wrote_passes : (t : ℕ) → t ≤ length h.page → (h.stand.lost ≡ true → t ≡ 0) → Passes [] h (wrote h t)
+  wrote_passes t within silent =
+      let d : Bool → List ℕ → List ℕ = λ ended cs. due ended h.line cs in
       record {
-        written = taken h page t within long;
-        rest = λ ended cs. over h page t within long ++ d ended cs;
-        sent = taken_counted h page t within long;
+        written = taken h t within;
+        rest = λ ended cs. over h t within ++ d ended cs;
+        sent = taken_counted h t within;
         same = λ ended cs.
-            sym (append_assoc (taken h page t within long) (over h page t within long) (d ended cs))
-            ∙ ap (λ (x : List ℕ). x ++ d ended cs) (all_taken h page t within long);
-        left = λ e ended cs. ap (λ (x : List ℕ). x ++ d ended cs) (none_over h page t within long e);
-        silent = λ e. (ap (λ (b : Bool). b || ltb t h.page) e, none_taken h page t within long (silent e));
+            sym (append_assoc (taken h t within) (over h t within) (d ended cs))
+            ∙ ap (λ (x : List ℕ). x ++ d ended cs) (all_taken h t within);
+        left = λ e ended cs. ap (λ (x : List ℕ). x ++ d ended cs) (none_over h t within e);
+        silent = λ e. (ap (λ (b : Bool). b || ltb t (length h.page)) e, none_taken h t within (silent e));
       }
 
-  pub flush_passes : {r : Held} → h.page ≤ length page → Flushes h r → Passes [] h line page r line page
-  flush_passes long f = subst (λ (x : Held). Passes [] h line page x line page) (sym f.left) (wrote_passes f.took f.within long f.silent)
+  pub flush_passes : {r : Held} → Flushes h r → Passes [] h r
+  flush_passes f = subst (λ (x : Held). Passes [] h x) (sym f.left) (wrote_passes f.took f.within f.silent)
 
-  pub passes_none : Passes [] h line page h line page
+  pub passes_none : Passes [] h h
   passes_none = record {
     written = [];
-    rest = λ ended cs. whole ended h line page cs;
-    sent = counted_none h.sent;
+    rest = λ ended cs. whole ended h cs;
+    sent = counted_none h.stand.sent;
     same = λ ended cs. refl;
     left = λ e ended cs. refl;
     silent = λ e. (e, refl);
   }
 
-  pub room_passes : {r : Held} → h.page ≤ length page → MakesRoom h r → Passes [] h line page r line page
-  room_passes long m =
-      ⊎_elim (λ e. subst (λ (x : Held). Passes [] h line page x line page) (sym e) passes_none) (λ f. flush_passes long f) m.how
+  pub room_passes : {r : Held} → MakesRoom h r → Passes [] h r
+  room_passes m = ⊎_elim (λ e. subst (λ (x : Held). Passes [] h x) (sym e) passes_none) (λ f. flush_passes f) m.how
 
-pub takes_passes : {c : ℕ} {h r : Held} {line page line' page' : List ℕ} → Takes c h line page r line' page' → Passes (c ∷ []) h line page r line' page'
-takes_passes {c} {h} {line = line} {page} t = record {
+pub takes_passes : {c : ℕ} {h r : Held} → Takes c h r → Passes (c ∷ []) h r
+takes_passes {c} {h} {r} t = record {
   written = [];
-  rest = λ ended cs. whole ended h line page (c ∷ cs);
-  sent = ap (λ (x : ℕ). x % 2 ^ 64) t.still.sent ∙ counted_none h.sent;
+  rest = λ ended cs. whole ended h (c ∷ cs);
+  sent = ap (λ (s : Stand). s.sent % 2 ^ 64) t.still ∙ counted_none h.stand.sent;
   same = λ ended cs. refl;
   left = λ e ended cs. sym (t.same ended cs);
-  silent = λ e. (t.still.lost ∙ e, refl);
+  silent = λ e. (ap (λ (s : Stand). s.lost) t.still ∙ e, refl);
 }
 
 -- a chunk, and then another. Where a write failed in the first, what is left is what was left then
-module _ {a b : List ℕ} {h m r : Held} {line page line₁ page₁ line₂ page₂ : List ℕ} where
-  pub passes_then : Passes a h line page m line₁ page₁ → Passes b m line₁ page₁ r line₂ page₂ → Passes (a ++ b) h line page r line₂ page₂
-  passes_then p q = go m.lost refl
+module _ {a b : List ℕ} {h m r : Held} where
+  pub passes_then : Passes a h m → Passes b m r → Passes (a ++ b) h r
+  passes_then p q = go m.stand.lost refl
     where
-      more : (ended : Bool) (cs : List ℕ) → whole ended h line page (a ++ (b ++ cs)) ≡ whole ended h line page (a ++ b ++ cs)
-      more ended cs = ap (λ (x : List ℕ). whole ended h line page x) (sym (append_assoc a b cs))
+      more : (ended : Bool) (cs : List ℕ) → whole ended h (a ++ (b ++ cs)) ≡ whole ended h (a ++ b ++ cs)
+      more ended cs = ap (λ (x : List ℕ). whole ended h x) (sym (append_assoc a b cs))
 
-      go : (lost : Bool) → m.lost ≡ lost → Passes (a ++ b) h line page r line₂ page₂
+      go : (lost : Bool) → m.stand.lost ≡ lost → Passes (a ++ b) h r
       go false e = record {
         written = p.written ++ q.written;
         rest = q.rest;
-        sent = counted_then h.sent m.sent r.sent p.written q.written p.sent q.sent;
+        sent = counted_then h.stand.sent m.stand.sent r.stand.sent p.written q.written p.sent q.sent;
         same = λ ended cs.
             append_assoc p.written q.written (q.rest ended cs)
             ∙ ap (λ (x : List ℕ). p.written ++ x) (q.same ended cs ∙ sym (p.left e ended (b ++ cs)))
@@ -130,45 +121,44 @@ module _ {a b : List ℕ} {h m r : Held} {line page line₁ page₁ line₂ page
           record {
             written = p.written ++ q.written;
             rest = λ ended cs. p.rest ended (b ++ cs);
-            sent = counted_then h.sent m.sent r.sent p.written q.written p.sent q.sent;
+            sent = counted_then h.stand.sent m.stand.sent r.stand.sent p.written q.written p.sent q.sent;
             same = λ ended cs. ap (λ (x : List ℕ). x ++ p.rest ended (b ++ cs)) none ∙ p.same ended (b ++ cs) ∙ more ended cs;
             left = λ f. absurd (true≢false (sym (q.silent e).0 ∙ f));
             silent = λ f. ((q.silent e).0, none ∙ (p.silent f).1);
           }
 
 -- one character more: room is made, and it is taken
-module _ {a : List ℕ} {c : ℕ} {h m n r : Held} {line page line₁ page₁ line₂ page₂ : List ℕ} where
-  pub passes_more : Passes a h line page m line₁ page₁ → m.page ≤ length page₁ → MakesRoom m n → Takes c n line₁ page₁ r line₂ page₂
-      → Passes (a ++ (c ∷ [])) h line page r line₂ page₂
-  passes_more p long room t = passes_then p (passes_then (room_passes m line₁ page₁ long room) (takes_passes t))
+module _ {a : List ℕ} {c : ℕ} {h m n r : Held} where
+  pub passes_more : Passes a h m → MakesRoom m n → Takes c n r → Passes (a ++ (c ∷ [])) h r
+  passes_more p room t = passes_then p (passes_then (room_passes m room) (takes_passes t))
 
 -- the last page is written
-module _ {m last : Held} {line page page' : List ℕ} (long : last.page ≤ length page') (e : Ends m line page last page') where
-  closes-wrote : (t : ℕ) → t ≤ last.page → (last.lost ≡ true → t ≡ 0) → Closes (whole m.ended m line page []) m (wrote last t)
+module _ {m last : Held} (e : Ends m last) where
+  closes-wrote : (t : ℕ) → t ≤ length last.page → (last.stand.lost ≡ true → t ≡ 0) → Closes (whole (has_ended m.stand.input) m []) m.stand (wrote last t).stand
   closes-wrote t within silent = record {
-    written = taken last page' t within long;
-    rest = over last page' t within long;
-    sent = taken_counted last page' t within long ∙ ap (λ (x : ℕ). (x + length (taken last page' t within long)) % 2 ^ 64) e.still.sent;
-    same = all_taken last page' t within long ∙ e.all;
-    all = none_over last page' t within long;
+    written = taken last t within;
+    rest = over last t within;
+    sent = taken_counted last t within ∙ ap (λ (s : Stand). (s.sent + length (taken last t within)) % 2 ^ 64) e.still;
+    same = all_taken last t within ∙ e.all;
+    all = none_over last t within;
     silent = λ f.
-        let g : last.lost ≡ true = e.still.lost ∙ f in
-        (ap (λ (b : Bool). b || ltb t last.page) g, none_taken last page' t within long (silent g));
+        let g : last.stand.lost ≡ true = ap (λ (s : Stand). s.lost) e.still ∙ f in
+        (ap (λ (b : Bool). b || ltb t (length last.page)) g, none_taken last t within (silent g));
   }
 
-  pub closes_page : {r : Held} → Flushes last r → Closes (whole m.ended m line page []) m r
-  closes_page f = subst (λ (x : Held). Closes (whole m.ended m line page []) m x) (sym f.left) (closes-wrote f.took f.within f.silent)
+  pub closes_page : {r : Held} → Flushes last r → Closes (whole (has_ended m.stand.input) m []) m.stand r.stand
+  closes_page f = subst (λ (x : Held). Closes (whole (has_ended m.stand.input) m []) m.stand x.stand) (sym f.left) (closes-wrote f.took f.within f.silent)
 
 -- and what passed before it
-module _ {a : List ℕ} (ended : Bool) {h m r : Held} {line page line₁ page₁ : List ℕ} where
-  pub passes_closes : Passes a h line page m line₁ page₁ → Closes (whole ended m line₁ page₁ []) m r → Closes (whole ended h line page (a ++ [])) h r
-  passes_closes p q = go m.lost refl
+module _ {a : List ℕ} (ended : Bool) {h m : Held} {r : Stand} where
+  pub passes_closes : Passes a h m → Closes (whole ended m []) m.stand r → Closes (whole ended h (a ++ [])) h.stand r
+  passes_closes p q = go m.stand.lost refl
     where
-      go : (lost : Bool) → m.lost ≡ lost → Closes (whole ended h line page (a ++ [])) h r
+      go : (lost : Bool) → m.stand.lost ≡ lost → Closes (whole ended h (a ++ [])) h.stand r
       go false e = record {
         written = p.written ++ q.written;
         rest = q.rest;
-        sent = counted_then h.sent m.sent r.sent p.written q.written p.sent q.sent;
+        sent = counted_then h.stand.sent m.stand.sent r.sent p.written q.written p.sent q.sent;
         same =
             append_assoc p.written q.written q.rest
             ∙ ap (λ (x : List ℕ). p.written ++ x) (q.same ∙ sym (p.left e ended []))
@@ -181,60 +171,47 @@ module _ {a : List ℕ} (ended : Bool) {h m r : Held} {line page line₁ page₁
           record {
             written = p.written ++ q.written;
             rest = p.rest ended [];
-            sent = counted_then h.sent m.sent r.sent p.written q.written p.sent q.sent;
+            sent = counted_then h.stand.sent m.stand.sent r.sent p.written q.written p.sent q.sent;
             same = ap (λ (x : List ℕ). x ++ p.rest ended []) none ∙ p.same ended [];
             all = λ f. absurd (true≢false (sym (q.silent e).0 ∙ f));
             silent = λ f. ((q.silent e).0, none ∙ (p.silent f).1);
           }
 
--- room is made: what is held of the line, and how the reading stands, are as they were
-pub room_keeps : {h r : Held} → MakesRoom h r → (r.line ≡ h.line) × (r.ended ≡ h.ended)
-room_keeps m =
-    ⊎_elim (λ e. (ap (λ (x : Held). x.line) e, ap (λ (x : Held). x.ended) e))
-    (λ f. (ap (λ (x : Held). x.line) f.left, ap (λ (x : Held). x.ended) f.left)) m.how
-
--- a read's answer, as the code tests it
-pub end_told : (got : ℤ) → SFits w64 got → eqb (of_z w64 got) 0 ≡ is_end got
-end_told (pos k) f = refl
-end_told (negsuc k) f = ne_eqb (2 ^ 64 - suc k) 0 (λ e. absurd (omega (arith, f.sfits)))
-
-pub failure_told : (got : ℤ) → SFits w64 got → lt_z (to_z w64 (of_z w64 got)) (pos 0) ≡ is_failure got
-failure_told got f = ap (λ (z : ℤ). lt_z z (pos 0)) (to_z-of_z w64 got f) ∙ go got
-  where
-    go : (z : ℤ) → lt_z z (pos 0) ≡ is_failure z
-    go (pos k) = le-ltb k 0 (omega arith)
-    go (negsuc k) = refl
-
--- what was fed is what the read gave
-module _ {got : ℤ} {buf : List ℕ} {h fed : Held} {line page line' page' : List ℕ} {n : ℕ} {ended failed : Bool} where
-  pub took_as : n ≡ clamp_len got (length buf) → ended ≡ is_end got → failed ≡ is_failure got → Fits fed line' → Passes (take n buf) h line page fed line' page'
-      → Took got buf h line page (record { line = fed.line; page = fed.page; sent = fed.sent; lost = fed.lost; ended = ended; failed = failed }) line' page'
-  took_as e f g fits p =
-      let q : Passes (take (clamp_len got (length buf)) buf) h line page fed line' page' = subst (λ (k : ℕ). Passes (take k buf) h line page fed line' page') e p in
-      record {
-        fits = record { kept = fits.kept; line = fits.line; page = fits.page };
-        passes = record { written = q.written; rest = q.rest; sent = q.sent; same = q.same; left = q.left; silent = q.silent };
-        ended = f;
-        failed = g;
-      }
+-- room is made: how the reading stands is as it was
+pub room_keeps : {h r : Held} → MakesRoom h r → r.stand.input ≡ h.stand.input
+room_keeps m = ⊎_elim (λ e. ap (λ (x : Held). x.stand.input) e) (λ f. ap (λ (x : Held). x.stand.input) f.left) m.how
 
 -- what is held since the first read: all that was read has passed
-pub record Since (h : Held) (line page : List ℕ) : Type 0 where
+pub record Since (h : Held) : Type 0 where
+  pub start : Held
+  pub line : start.line ≡ []
+  pub page : start.page ≡ []
+  pub stand : start.stand ≡ at_start
   pub input : List ℕ
-  pub passes : Passes input nothing [] [] h line page
+  pub passes : Passes input start h
 
-pub since_start : (line page : List ℕ) → Since nothing line page
-since_start line page =
-    let p = passes_none nothing line page in
-    record { input = []; passes = record { written = p.written; rest = p.rest; sent = p.sent; same = p.same; left = p.left; silent = p.silent } }
+pub since_start : (s : Held) → s.line ≡ [] → s.page ≡ [] → s.stand ≡ at_start → Since s
+since_start s l p b = record { start = s; line = l; page = p; stand = b; input = []; passes = passes_none s }
 
-module _ {h r : Held} {line page : List ℕ} where
-  pub since_read : {line' page' : List ℕ} → Since h line page → Reads h line page r line' page' → Since r line' page'
-  since_read s t = record { input = s.input ++ take (clamp_len t.got (length t.buf)) t.buf; passes = passes_then s.passes t.took.passes }
-
-  pub since_runs : Since h line page → r.ended ≡ h.ended → Closes (whole h.ended h line page []) h r → Runs r
-  since_runs s e q = record {
-    input = s.input;
-    closes = subst (λ (b : Bool). Closes (output b s.input) nothing r) (sym e)
-        (subst (λ (x : List ℕ). Closes (output h.ended x) nothing r) (append-nil s.input) (passes_closes h.ended s.passes q));
+module _ {h : Held} (w : Since h) where
+  pub since_read : {r : Held} → Reads h r → Since r
+  since_read t = record {
+    start = w.start;
+    line = w.line;
+    page = w.page;
+    stand = w.stand;
+    input = w.input ++ take (clamp_len t.got (length t.buf)) t.buf;
+    passes = passes_then w.passes t.took.passes;
   }
+
+  pub since_runs : {r : Stand} → r.input ≡ h.stand.input → Closes (whole (has_ended h.stand.input) h []) h.stand r → Runs r
+  since_runs {r} e q =
+      let ended : Bool = has_ended h.stand.input in
+      let s : Held = w.start in
+      let begun : whole ended s (w.input ++ []) ≡ output ended w.input =
+      ap (λ (x : List ℕ). x ++ due ended s.line (w.input ++ [])) w.page ∙ ap (λ (x : List ℕ). due ended x (w.input ++ [])) w.line ∙ ap (due ended []) (append-nil w.input) in
+      record {
+        input = w.input;
+        closes = subst (λ (i : Input). Closes (output (has_ended i) w.input) at_start r) (sym e)
+            (subst (λ (x : Stand). Closes (output ended w.input) x r) w.stand (subst (λ (o : List ℕ). Closes o s.stand r) begun (passes_closes ended w.passes q)));
+      }

@@ -3,18 +3,22 @@
 -- due_lf, due_more   the clauses of due
 -- takes_end     an LF: the frame is printed
 -- takes_kept    any other character
+-- begun, not_begun, ended_told   what the code tests at the end
 -- ends_line, ends_none   the end of the input, in a line and between two
 -- ends_cut      a read that failed: the line is left out
--- flip, still_same   a test made the other way round; nothing read or written
 -- Assumes nothing.
-use Rattle.std.proofs.Common.{◌≡◌, ℕ, suc, ◌+◌, ◌<◌, ◌≤◌, Bool, true, false, cond, not, eqb, ltb, List, [], ◌∷◌, ◌++◌, length, take, sym, refl, ap, ◌∙◌, append_assoc, append-nil, arith, length-append, length-take-le, ltb-false, ltb-true, eq-eqb, ne_eqb}
-use mathlib.Core.Bool.{not-not}
+use Rattle.std.proofs.Common.{◌≡◌, ℕ, suc, ◌<◌, ◌≤◌, Bool, true, false, cond, eqb, ltb, List, [], ◌∷◌, ◌++◌, length, sym, refl, ap, ◌∙◌, append_assoc, append-nil, arith, length-append, ltb-false, ltb-true, eqb-true, eq-eqb, ne_eqb}
 use Prim.Native.Char.{code}
-use Rattle.frames.specs.Frames.{line_limit, longest, frame_of, printed, Prints}
+use Rattle.frames.specs.Frames.{line_limit, frame_of, printed}
+use Rattle.frames.specs.Filled.{Keeps}
 use Rattle.frames.proofs.Longer.{longer}
 use Rattle.shape.specs.declared.Held.{Held}
+use Rattle.shape.specs.declared.input.Input.{Input}
+use Rattle.shape.specs.declared.input.Input.TheVariants.{Open, Ended, Failed}
+use Rattle.shape.specs.contracts.input.Input.{the_type}
+use denote.Enum.Bare.{sameb}
 use Rattle.shape.specs.Due.{at_stop, due}
-use Rattle.shape.specs.Fits.{Fits, Still, page_room, Keeps, Takes, Ends}
+use Rattle.shape.specs.Fits.{Still, has_ended, Takes, Ends}
 
 -- two lines over the limit have one frame
 same_frame : (k l : List ℕ) → line_limit < length k → line_limit < length l → printed (frame_of k) ≡ printed (frame_of l)
@@ -48,42 +52,35 @@ due_more : (ended : Bool) (l : List ℕ) (c : ℕ) (cs : List ℕ) → (c ≡ 10
 unfolding due
 due_more ended l c cs e = simp (ne_eqb c 10 e)
 
-module _ {c : ℕ} {h r : Held} {line page page' : List ℕ} (f : Fits h line) (still : Still h r) where
-  pub takes_end : c ≡ 10 → r.line ≡ 0 → Prints (take h.line line) page h.page r.page page' → h.page + longest ≤ page_room → Takes c h line page r line page'
-  takes_end e z p room =
-      let l : List ℕ = take h.line line in
-      let s : List ℕ = printed (frame_of l) in
+module _ {c : ℕ} {h r : Held} (still : Still h r) where
+  pub takes_end : c ≡ 10 → r.line ≡ [] → r.page ≡ h.page ++ printed (frame_of h.line) → Takes c h r
+  takes_end e z p =
+      let s : List ℕ = printed (frame_of h.line) in
       record {
-        fits = record { kept = f.kept; line = omega arith; page = omega (arith, p.within) };
         still = still;
         same = λ ended cs.
-            ap (λ (k : ℕ). take r.page page' ++ due ended (take k line) cs) z
-            ∙ ap (λ (t : List ℕ). t ++ due ended [] cs) p.front
-            ∙ append_assoc (take h.page page) s (due ended [] cs)
-            ∙ ap (λ (t : List ℕ). take h.page page ++ t) (sym (due_lf ended l c cs e));
+            ap (λ (l : List ℕ). r.page ++ due ended l cs) z
+            ∙ ap (λ (t : List ℕ). t ++ due ended [] cs) p
+            ∙ append_assoc h.page s (due ended [] cs)
+            ∙ ap (λ (t : List ℕ). h.page ++ t) (sym (due_lf ended h.line c cs e));
       }
 
-module _ {c : ℕ} {h r : Held} {line line' page : List ℕ} (f : Fits h line) (still : Still h r) where
-  pub takes_kept : (c ≡ 10 → ⊥) → r.page ≡ h.page → Keeps line h.line c r.line line' → length line' ≡ length line → Takes c h line page r line' page
-  takes_kept n e k same-long =
-      let l : List ℕ = take h.line line in
-      let more : (ended : Bool) (cs : List ℕ) → due ended (take r.line line') cs ≡ due ended (l ++ (c ∷ [])) cs =
-      λ ended cs. go ended cs (ltb h.line (length line)) (λ q. ltb-true h.line (length line) q) (λ q. ltb-false h.line (length line) q) in
-      record {
-        fits = record { kept = same-long ∙ f.kept; line = k.within; page = omega (arith, f.page) };
-        still = still;
-        same = λ ended cs.
-            ap (λ (m : ℕ). take m page ++ due ended (take r.line line') cs) e
-            ∙ ap (λ (t : List ℕ). take h.page page ++ t) (more ended cs ∙ sym (due_more ended l c cs n));
-      }
+  pub takes_kept : (c ≡ 10 → ⊥) → r.page ≡ h.page → Keeps (suc line_limit) h.line c r.line → Takes c h r
+  takes_kept n e k = record {
+    still = still;
+    same = λ ended cs.
+        ap (λ (p : List ℕ). p ++ due ended r.line cs) e
+        ∙ ap (λ (t : List ℕ). h.page ++ t)
+        (go ended cs (ltb (length h.line) (suc line_limit)) (λ q. ltb-true (length h.line) (suc line_limit) q) (λ q. ltb-false (length h.line) (suc line_limit) q)
+        ∙ sym (due_more ended h.line c cs n));
+  }
     where
-      go : (ended : Bool) (cs : List ℕ) (b : Bool) → (b ≡ true → h.line < length line) → (b ≡ false → length line ≤ h.line)
-          → due ended (take r.line line') cs ≡ due ended (take h.line line ++ (c ∷ [])) cs
+      go : (ended : Bool) (cs : List ℕ) (b : Bool) → (b ≡ true → length h.line < suc line_limit) → (b ≡ false → suc line_limit ≤ length h.line)
+          → due ended r.line cs ≡ due ended (h.line ++ (c ∷ [])) cs
       go ended cs true lt le = ap (λ (t : List ℕ). due ended t cs) (k.kept (lt refl))
       go ended cs false lt le =
-          let long : length (take h.line line) ≡ suc line_limit = length-take-le h.line line f.line ∙ omega (arith, le refl, f.line, f.kept) in
           ap (λ (t : List ℕ). due ended t cs) (k.full (le refl))
-          ∙ due_long ended cs (take h.line line) (take h.line line ++ (c ∷ [])) (omega arith) (omega (arith, length-append (take h.line line) (c ∷ [])))
+          ∙ due_long ended cs h.line (h.line ++ (c ∷ [])) (omega (arith, le refl)) (omega (arith, le refl, length-append h.line (c ∷ [])))
 
 -- a line that has begun is ended by the end of the input
 due_end : (l : List ℕ) → 0 < length l → due true l [] ≡ printed (frame_of l)
@@ -96,38 +93,44 @@ due_cut : (l : List ℕ) → due false l [] ≡ []
 unfolding due
 due_cut l = refl
 
--- a test that the code makes the other way round
-pub flip : (b : Bool) {c : Bool} → not b ≡ c → b ≡ not c
-flip b e = sym (not-not b) ∙ ap not e
+-- a line has begun or not, and the input has ended or not, as the code tests it
+pub begun : (l : List ℕ) → eqb (length l) 0 ≡ false → 0 < length l
+begun [] e = cc
+begun (c ∷ cs) e = omega arith
 
-pub still_same : {h : Held} → Still h h
-still_same = record { sent = refl; lost = refl; ended = refl; failed = refl }
+pub not_begun : (l : List ℕ) → eqb (length l) 0 ≡ true → length l ≡ 0
+not_begun l e = eqb-true (length l) 0 e
 
-module _ {h r : Held} {line page page' : List ℕ} (room : h.page + longest ≤ page_room) (still : Still h r) where
-  pub ends_line : h.ended ≡ true → 0 < h.line → h.line ≤ length line → Prints (take h.line line) page h.page r.page page' → Ends h line page r page'
-  ends_line e some within p =
-      let l : List ℕ = take h.line line in
-      record {
-        within = omega (arith, p.within);
-        still = still;
-        all =
-            p.front
-            ∙ ap (λ (t : List ℕ). take h.page page ++ t) (sym (due_end l (omega (arith, length-take-le h.line line within))))
-            ∙ ap (λ (b : Bool). take h.page page ++ due b l []) (sym e);
-      }
+pub ended_told : (i : Input) → sameb the_type i Ended ≡ has_ended i
+ended_told Open = refl
+ended_told Ended = refl
+ended_told Failed = refl
 
-module _ {h : Held} {line page : List ℕ} (room : h.page + longest ≤ page_room) where
-  -- nothing is due: the page is as it was
-  ends_page : due h.ended (take h.line line) [] ≡ [] → Ends h line page h page
-  ends_page e = record {
-    within = omega arith;
-    still = still_same;
-    all = sym (ap (λ (t : List ℕ). take h.page page ++ t) e ∙ append-nil (take h.page page));
+module _ {h r : Held} (still : Still h r) where
+  pub ends_line : has_ended h.stand.input ≡ true → 0 < length h.line → r.page ≡ h.page ++ printed (frame_of h.line) → Ends h r
+  ends_line e some p = record {
+    still = still;
+    all =
+        p
+        ∙ ap (λ (t : List ℕ). h.page ++ t) (sym (due_end h.line some))
+        ∙ ap (λ (b : Bool). h.page ++ due b h.line []) (sym e);
   }
 
-  pub ends_none : h.ended ≡ true → h.line ≡ 0 → Ends h line page h page
-  unfolding due
-  ends_none e z = ends_page (ap (λ (k : ℕ). due h.ended (take k line) []) z ∙ ap (λ (b : Bool). due b [] []) e)
+module _ {h : Held} where
+  -- nothing is due: the page is as it was
+  ends_page : due (has_ended h.stand.input) h.line [] ≡ [] → Ends h h
+  ends_page e = record {
+    still = refl;
+    all = sym (ap (λ (t : List ℕ). h.page ++ t) e ∙ append-nil h.page);
+  }
 
-  pub ends_cut : h.ended ≡ false → Ends h line page h page
-  ends_cut e = ends_page (ap (λ (b : Bool). due b (take h.line line) []) e ∙ due_cut (take h.line line))
+  pub ends_none : has_ended h.stand.input ≡ true → length h.line ≡ 0 → Ends h h
+  unfolding due
+  ends_none e z = ends_page (ap (λ (b : Bool). due b h.line []) e ∙ go h.line z)
+    where
+      go : (l : List ℕ) → length l ≡ 0 → due true l [] ≡ []
+      go [] z = refl
+      go (c ∷ cs) z = absurd (omega arith)
+
+  pub ends_cut : has_ended h.stand.input ≡ false → Ends h h
+  ends_cut e = ends_page (ap (λ (b : Bool). due b h.line []) e ∙ due_cut h.line)

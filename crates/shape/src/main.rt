@@ -2,244 +2,175 @@
 // A line's frame is proved in crate frames; here lines are cut from the input, and frames collected until a page is written (page.rt).
 #![tactic(auto)]
 
-ghost use Rattle.std.specs.Prelude.{◌≡◌, suc, ◌+◌, ◌≤◌, [], length, take};
-ghost use Rattle.frames.specs.Frames.{line_limit, longest, Prints};
-ghost use Rattle.shape.specs.Fits.{Fits, Still, page_room, whole, Keeps, Takes, Ends};
-ghost use Rattle.shape.specs.Passes.{Passes, Took, Reads, Closes, Runs};
+ghost use Rattle.std.specs.Prelude.{◌≡◌, ◌+◌, ◌≤◌, [], ◌++◌, length};
+ghost use Rattle.frames.specs.Frames.{frame_of, printed, longest};
+ghost use Rattle.shape.specs.Fits.{Still, page_room, has_ended, whole, Takes, Ends};
+ghost use Rattle.shape.specs.Passes.{wrote, Flushes, MakesRoom, Passes, Took, Reads, Closes, Runs};
 
-use crate::input::{count, read_some};
-use crate::page::{flush, make_room};
-use frames::print_frame;
+use crate::input::{Input, read_some};
+use crate::page::{FULL, Page, write_out};
+use frames::Work;
+use frames::line::Line;
 use std::io::{Print, Stderr, Stdin, Stdout};
 
 mod input;
 mod page;
 
-// How much is held of the line and of the page; how many bytes the writes took, as a counter of 64 bits; whether one took fewer than it was to;
-// and whether the input has ended, or a read failed.
+// How the run stands: how many bytes the writes took, as a counter of 64 bits; whether one took fewer than it was to; and what the reads did.
+// Stays: `lost` is a flag beside a number; no plainer otherwise: after a loss the count still stands, so no variant would hold another value.
 #[derive(Clone, Copy)]
-struct Held {
-    line: usize,
-    page: usize,
+struct Stand {
     sent: usize,
     lost: bool,
-    ended: bool,
-    failed: bool,
+    input: Input,
 }
 
-// Prints the frame of the line that is held.
-fn end_line(
-    held: Held,
-    line: &[u8],
-    text: &mut [u8; 8192],
-    slots: &mut [u32; 12288],
-    out: &mut [u8; 16384],
-    page: &mut [u8; 65536],
-) -> Held
-    requires { (held.line ≤ length line.now) × (held.page + longest ≤ page_room) }
-    ensures { (result.line ≡ 0) × Still held result × Prints (take held.line line.now) page.old held.page result.page page.new }
-{
-    let count = held.line;
-    Held {
-        line: 0,
-        page: print_frame(&line[..count], text, slots, out, page, held.page),
-        sent: held.sent,
-        lost: held.lost,
-        ended: held.ended,
-        failed: held.failed,
+// What is held between two characters: the line so far, the frames that are not written yet, what is lent for a line, and how the run stands.
+#[derive(Drop)]
+struct Held {
+    line: Line,
+    page: Page,
+    work: Work,
+    stand: Stand,
+}
+
+impl Held {
+    // What is held once the writes took so many bytes of the page.
+    fn after_write(&mut self, took: usize)
+        ensures { self.new ≡ wrote self.old took }
+    {
+        self.stand.lost = self.stand.lost || took < self.page.as_slice().len();
+        self.stand.sent = self.stand.sent.wrapping_add(took);
+        self.page.clear();
+    }
+
+    // Writes the page.
+    fn flush(&mut self, stdout: Stdout)
+        ensures { Flushes self.old self.new }
+    {
+        let took = write_out(stdout, self.page.as_slice(), self.stand.lost);
+        self.after_write(took);
+    }
+
+    // Writes the page where the longest frame may not fit behind what it has.
+    fn make_room(&mut self, stdout: Stdout)
+        ensures { MakesRoom self.old self.new }
+    {
+        if FULL < self.page.as_slice().len() {
+            self.flush(stdout);
+        }
+    }
+
+    // Prints the frame of the line that is held.
+    fn end_line(&mut self)
+        requires { length self.old.page + longest ≤ page_room }
+        ensures line { self.new.line ≡ [] }
+        ensures page { self.new.page ≡ self.old.page ++ printed (frame_of self.old.line) }
+        ensures still { Still self.old self.new }
+    {
+        self.page.print(self.line.as_slice(), &mut self.work);
+        self.line.clear();
+    }
+
+    // Takes one character of the input.
+    fn step(&mut self, c: u8)
+        requires { length self.old.page + longest ≤ page_room }
+        ensures { Takes c self.old self.new }
+    {
+        if c == b'\n' {
+            self.end_line();
+        } else {
+            self.line.keep(c);
+        }
+    }
+
+    // Takes a chunk of the input.
+    fn feed(&mut self, stdout: Stdout, chunk: &[u8])
+        ensures { Passes chunk.now self.old self.new }
+    {
+        for &c in chunk {
+            self.make_room(stdout);
+            self.step(c);
+        }
+    }
+
+    // Takes what a read gave: its answer, and the buffer that it read into.
+    fn take_read(&mut self, stdout: Stdout, got: Option<usize>, buf: &[u8])
+        ensures { Took got buf.now self.old self.new }
+    {
+        let n = got.unwrap_or(0).min(buf.len());
+        self.feed(stdout, &buf[..n]);
+        self.stand.input = Input::after(got);
+    }
+
+    // Reads a chunk and takes it.
+    fn turn(&mut self, stdin: Stdin, stdout: Stdout)
+        ensures { Reads self.old self.new }
+    {
+        let mut buf = [0; 65536];
+        let got = read_some(stdin, &mut buf);
+        self.take_read(stdout, got, &buf);
+    }
+
+    // No more is read. The end of the input ends a line that has begun; where a read failed, a line that is not finished is left out.
+    fn end_input(&mut self)
+        requires { length self.old.page + longest ≤ page_room }
+        ensures { Ends self.old self.new }
+    {
+        if self.stand.input == Input::Ended && !self.line.as_slice().is_empty() {
+            self.end_line();
+        }
+    }
+
+    // What is left is printed, and the last page written.
+    fn finish(&mut self, stdout: Stdout)
+        ensures input { self.new.stand.input ≡ self.old.stand.input }
+        ensures closes { Closes (whole (has_ended self.old.stand.input) self.old []) self.old.stand self.new.stand }
+    {
+        self.make_room(stdout);
+        self.end_input();
+        self.flush(stdout);
     }
 }
 
-// Keeps a character of the line, where there is room: for one more than a line may have. A longer line has the same frame whatever
-// follows, so the rest is dropped.
-fn keep(line: &mut [u8], count: usize, c: u8) -> usize
-    requires { count ≤ length line.old }
-    ensures { Keeps line.old count c result line.new }
-{
-    if count < line.len() {
-        line[count] = c;
-        return count + 1;
-    }
-    count
-}
-
-// Takes one character of the input.
-fn step(
-    held: Held,
-    c: u8,
-    line: &mut [u8],
-    text: &mut [u8; 8192],
-    slots: &mut [u32; 12288],
-    out: &mut [u8; 16384],
-    page: &mut [u8; 65536],
-) -> Held
-    requires { Fits held line.old × (held.page + longest ≤ page_room) }
-    ensures { Takes c held line.old page.old result line.new page.new }
-{
-    if c == b'\n' {
-        return end_line(held, line, text, slots, out, page);
-    }
-    Held {
-        line: keep(line, held.line, c),
-        page: held.page,
-        sent: held.sent,
-        lost: held.lost,
-        ended: held.ended,
-        failed: held.failed,
-    }
-}
-
-// Takes a chunk of the input.
-fn feed(
-    stdout: Stdout,
-    chunk: &[u8],
-    start: Held,
-    line: &mut [u8],
-    text: &mut [u8; 8192],
-    slots: &mut [u32; 12288],
-    out: &mut [u8; 16384],
-    page: &mut [u8; 65536],
-) -> Held
-    requires { Fits start line.old }
-    ensures { Fits result line.new × Passes chunk.now start line.old page.old result line.new page.new }
-{
-    let mut held = start;
-    let mut i = 0;
-    while i < chunk.len() {
-        held = make_room(stdout, held, page);
-        held = step(held, chunk[i], line, text, slots, out, page);
-        i += 1;
-    }
-    held
-}
-
-// Takes what a read gave: its answer, and the buffer that it read into.
-fn take_read(
-    stdout: Stdout,
-    got: isize,
-    buf: &[u8],
-    held: Held,
-    line: &mut [u8],
-    text: &mut [u8; 8192],
-    slots: &mut [u32; 12288],
-    out: &mut [u8; 16384],
-    page: &mut [u8; 65536],
-) -> Held
-    requires { Fits held line.old }
-    ensures { Took got buf.now held line.old page.old result line.new page.new }
-{
-    let n = count(got, buf);
-    let fed = feed(stdout, &buf[..n], held, line, text, slots, out, page);
-    Held {
-        line: fed.line,
-        page: fed.page,
-        sent: fed.sent,
-        lost: fed.lost,
-        ended: got == 0,
-        failed: got < 0,
-    }
-}
-
-// Reads a chunk and takes it.
-fn turn(
-    stdin: Stdin,
-    stdout: Stdout,
-    held: Held,
-    line: &mut [u8],
-    text: &mut [u8; 8192],
-    slots: &mut [u32; 12288],
-    out: &mut [u8; 16384],
-    page: &mut [u8; 65536],
-) -> Held
-    requires { Fits held line.old }
-    ensures { Reads held line.old page.old result line.new page.new }
-{
-    let mut buf = [0u8; 65536];
-    let got = read_some(stdin, &mut buf);
-    take_read(stdout, got, &buf, held, line, text, slots, out, page)
-}
-
-// No more is read. The end of the input ends a line that has begun; where a read failed, a line that is not finished is left out.
-fn end_input(
-    held: Held,
-    line: &[u8],
-    text: &mut [u8; 8192],
-    slots: &mut [u32; 12288],
-    out: &mut [u8; 16384],
-    page: &mut [u8; 65536],
-) -> Held
-    requires { (held.line ≤ length line.now) × (held.page + longest ≤ page_room) }
-    ensures { Ends held line.now page.old result page.new }
-{
-    if !held.ended {
-        return held;
-    }
-    if 0 < held.line {
-        return end_line(held, line, text, slots, out, page);
-    }
-    held
-}
-
-// What is left is printed, and the last page written.
-fn finish(
-    stdout: Stdout,
-    held: Held,
-    line: &[u8],
-    text: &mut [u8; 8192],
-    slots: &mut [u32; 12288],
-    out: &mut [u8; 16384],
-    page: &mut [u8; 65536],
-) -> Held
-    requires { Fits held line.now }
-    ensures { (result.ended ≡ held.ended) × Closes (whole held.ended held line.now page.old []) held result }
-{
-    let ready = make_room(stdout, held, page);
-    let last = end_input(ready, line, text, slots, out, page);
-    flush(stdout, last, page)
-}
-
-// Reads to the end of the input, or until a read or a write fails.
-fn run(
-    stdin: Stdin,
-    stdout: Stdout,
-    line: &mut [u8],
-    text: &mut [u8; 8192],
-    slots: &mut [u32; 12288],
-    out: &mut [u8; 16384],
-    page: &mut [u8; 65536],
-) -> Held
-    requires { length line.old ≡ suc line_limit }
+// Reads to the end of the input, or until a read or a write fails: how the run ended.
+fn run(stdin: Stdin, stdout: Stdout) -> Stand
     ensures { Runs result }
 {
     let mut held = Held {
-        line: 0,
-        page: 0,
-        sent: 0,
-        lost: false,
-        ended: false,
-        failed: false,
+        line: Line::new(),
+        page: Page::new(),
+        work: Work {
+            text: [0; 8192],
+            slots: [0; 12288],
+            out: [0; 16384],
+        },
+        stand: Stand {
+            sent: 0,
+            lost: false,
+            input: Input::Open,
+        },
     };
     // No input has as many chunks as this; the bound shows that the loop ends.
-    let mut turns = u64::MAX;
-    while turns > 0 {
-        held = turn(stdin, stdout, held, line, text, slots, out, page);
-        turns -= 1;
-        if held.ended || held.failed || held.lost {
-            turns = 0;
+    for _ in 0..u64::MAX {
+        held.turn(stdin, stdout);
+        if held.stand.input != Input::Open || held.stand.lost {
+            break;
         }
     }
-    finish(stdout, held, line, text, slots, out, page)
+    held.finish(stdout);
+    held.stand
 }
 
 // Says on standard error what went wrong; the exit status is 0 all the same.
-fn say(stderr: Stderr, held: Held) {
-    if held.lost {
+fn say(stderr: Stderr, end: Stand) {
+    if end.lost {
         let _ = stderr.write_all(
             b"shape: the output could not be written; what was written is the beginning of it\n",
         );
         return;
     }
-    if !held.ended {
+    if end.input != Input::Ended {
         let _ = stderr.write_all(
             b"shape: the input could not be read to its end; a line that was not finished is left out\n",
         );
@@ -247,19 +178,6 @@ fn say(stderr: Stderr, held: Held) {
 }
 
 fn main(rt: HostRuntime) {
-    let mut line = [0u8; 16385];
-    let mut text = [0u8; 8192];
-    let mut slots = [0u32; 12288];
-    let mut out = [0u8; 16384];
-    let mut page = [0u8; 65536];
-    let held = run(
-        rt.stdin(),
-        rt.stdout(),
-        &mut line,
-        &mut text,
-        &mut slots,
-        &mut out,
-        &mut page,
-    );
-    say(rt.stderr(), held);
+    let end = run(rt.stdin(), rt.stdout());
+    say(rt.stderr(), end);
 }

@@ -10,17 +10,17 @@ use Rattle.frames.proofs.frame_line.Goals as goal
 pub decode-count-requires : goal.decode-count-requires
 decode-count-requires c =
     let line = c.args.line.now in
-    let p = line_passes line (sym (ap checked c.in-Fine.is) ∙ c.check_line-checked.ensures) in
+    let p = line_passes line (sym (ap checked c.in-Ok.is) ∙ c.check_line.ensures) in
     (omega (arith, p.0), p.1)
 
 pub frame_text-requires : goal.frame_text-requires
 frame_text-requires c =
     let line = c.args.line.now in
-    let p = line_passes line (sym (ap checked c.in-Fine.is) ∙ c.check_line-checked.ensures) in
+    let p = line_passes line (sym (ap checked c.in-Ok.is) ∙ c.check_line.ensures) in
     omega (arith, p.0, c.decode-count.ensures.next, bytes_few line)
 
-pub returns-in-Fine : goal.returns-in-Fine
-returns-in-Fine c = fine-line _ _ _ _ (sym (ap checked c.in-Fine.is) ∙ c.check_line-checked.ensures) c.decode-count.ensures c.frame_text.ensures
+pub returns-in-Ok : goal.returns-in-Ok
+returns-in-Ok c = rw c.frame_text.ensures.text_kept (fine-line _ _ _ _ (sym (ap checked c.in-Ok.is) ∙ c.check_line.ensures) c.decode-count.ensures c.frame_text.ensures.value)
 
-pub returns-in-Bad : goal.returns-in-Bad
-returns-in-Bad c = bad_line_lem _ _ _ _ (sym (ap checked c.in-Bad.is) ∙ c.check_line-checked.ensures) (c.refused_frame.ensures (hex_bytes c.args.line.now))
+pub returns-in-Err : goal.returns-in-Err
+returns-in-Err c = bad_line_lem _ _ _ _ (sym (ap checked c.in-Err.is) ∙ c.check_line.ensures) (c.refused_frame.ensures (hex_bytes c.args.line.now))

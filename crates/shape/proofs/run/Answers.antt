@@ -1,22 +1,17 @@
--- `shape::run` meets its contract. The invariant: what is held fits, and all that was read has passed. Assumes nothing.
-use Rattle.std.proofs.Common.{rules}
-use Rattle.shape.proofs.Passing.{since_start, since_read, since_runs}
+-- `shape::run` meets its contract. The invariant: all that was read has passed. Assumes nothing.
+use Rattle.std.proofs.Common.{refl}
+use Rattle.shape.proofs.Passing.{Since, since_start, since_read, since_runs}
+use Rattle.shape.proofs.run.Goals.{else-loop-test, then-loop-test+then-ne}
 use Rattle.shape.proofs.run.Goals as goal
 
-pub loop-turns-init : goal.loop-turns-init
-loop-turns-init c = (search rules, search rules, since_start _ _)
+pub loop-init : goal.loop-init
+loop-init c = since_start _ c.new.ensures c.new-2.ensures refl
 
-pub loop-turns-preserved-in-loop-turns : goal.loop-turns-preserved-in-loop-turns
-loop-turns-preserved-in-loop-turns c =
-    let t = c.turn-held.ensures in
-    (search rules, t.took.fits, since_read c.loop-turns.invariant.2 t)
-
-pub loop-turns-preserved : goal.loop-turns-preserved
-loop-turns-preserved c =
-    let t = c.turn-held.ensures in
-    (search rules, t.took.fits, since_read c.loop-turns.invariant.2 t)
+pub loop-preserved : goal.loop-preserved
+loop-preserved c = since_read c.loop.invariant c.turn.ensures
 
 pub returns : goal.returns
 returns c =
-    let f = c.finish.ensures in
-    since_runs c.loop-turns.invariant.2 f.0 f.1
+    let w : Since c.loop-test.held =
+    elim c.loop-test.branch [ else-loop-test w ↦ rw w.held-is c.loop.invariant | then-loop-test+then-ne w ↦ rw w.held-is (since_read c.loop.invariant w.turn.ensures) ] in
+    since_runs w c.finish.ensures.input c.finish.ensures.closes

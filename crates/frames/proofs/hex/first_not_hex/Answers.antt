@@ -1,16 +1,10 @@
--- `frames::hex::first_not_hex` meets its contract. The invariant: what is passed is hexadecimal. Assumes nothing.
-use native.Mathlib.Omega.{arith}
-use Rattle.frames.proofs.Reading.{hex_here, hex_not, hex_end}
+-- `frames::hex::first_not_hex` meets its contract. Assumes nothing.
+use Rattle.std.proofs.Common.{length, ap, ◌∙◌}
+use Rattle.std.specs.Option.{unwrap_or}
+use Rattle.frames.proofs.Reading.{no_value_at}
 use Rattle.frames.proofs.hex.first_not_hex.Goals as goal
 
-pub loop-i-init : goal.loop-i-init
-loop-i-init c = (omega arith, omega arith)
-
-pub returns-then-hex_value-ge16 : goal.returns-then-hex_value-ge16
-returns-then-hex_value-ge16 c = omega (arith, hex_not c.args.line.now c.loop-i.i (omega arith) (omega (arith, c.hex_value.ensures)))
-
-pub loop-i-preserved : goal.loop-i-preserved
-loop-i-preserved c = (omega arith, omega (arith, hex_here c.args.line.now c.loop-i.i (omega arith) (omega (arith, c.hex_value.ensures))))
-
 pub returns : goal.returns
-returns c = omega (arith, hex_end c.args.line.now c.loop-i.i (omega arith))
+returns c =
+    let line = c.args.line.now in
+    c.unwrap_or.ensures ∙ ap (λ o. unwrap_or o (length line)) c.place_not_hex.ensures ∙ no_value_at line
