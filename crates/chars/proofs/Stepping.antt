@@ -23,12 +23,12 @@ use borrow.Author.Tests.{lt-ltb}
 use Rattle.std.specs.Prelude.{Some, None}
 use Rattle.chars.specs.declared.offset.Offset.{Offset}
 use Rattle.chars.specs.declared.utf8.Step.TheVariants.{Char, Bad, End}
-use Rattle.chars.specs.Utf8.{Front, char, bad, end, follows, is_scalar, joined, ranged, front, on_front, chars, chars_from, bad_from, first_bad, width, encode}
+use Rattle.chars.specs.Utf8.{Front, char, bad, end, follows, is_scalar, joined, ranged, front, on_front, chars, chars_from, bad_from, first_bad, width}
 use Rattle.chars.specs.Steps.{offset, placed, scalar_of, size_of, step_at}
 use Rattle.chars.proofs.Joining.{drop_at}
 use Rattle.chars.proofs.Scalars.{front_read}
 use Rattle.chars.proofs.Fronts.{front_one}
-use Rattle.chars.proofs.Whole.{written, front_some}
+use Rattle.chars.proofs.Whole.{front_some}
 
 module _ (t : List ℕ) (at : ℕ) where
   pub step_end : length t ≤ at → End ≡ step_at t (offset at)

@@ -69,6 +69,7 @@ fn sequence(rest: &[u8], count: usize, least: u32, lead: u32) -> Option<u32>
 }
 
 // The scalar value at an offset, joined from two to four bytes.
+// Stays: text and offset stand apart, for what may not change: step_at, whose callers lend a whole text and count offsets into it.
 fn scalar_at(text: &[u8], at: usize) -> Option<u32>
     requires { (at < length text.now) × (0x80 ≤ get_or text.now at 0) }
     ensures { result ≡ scalar_of (front (drop at text.now)) }

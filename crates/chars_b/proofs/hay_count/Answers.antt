@@ -3,7 +3,7 @@
 use mathlib.Core.Path.{sym, ◌∙◌}
 use native.Mathlib.Omega.{arith}
 use Rattle.chars.proofs.Stepping.{stepped}
-use Rattle.chars_b.proofs.Counting.{counting_start, counting_on, counting_done, no_more}
+use Rattle.chars_b.proofs.Counting.{counting_on, counting_done, no_more}
 use Rattle.chars_b.proofs.hay_count.Goals as goal
 
 pub loop-next-smaller : goal.loop-next-smaller

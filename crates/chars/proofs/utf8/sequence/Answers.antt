@@ -45,6 +45,6 @@ returns-else-least-x c =
     let items = c.in_ok-b-items.ensures.lookup.0 in
     let done = joining_done c.loop-b.invariant (omega (arith, items.3)) in
     elim c.else-least-x.branch [
-      else-least-x-via-then-least-x+else-is_scalar w ↦ answer_no_scalar _ _ _ _ done w.if-least-x.true (sym w.is_scalar.ensures ∙ w.if-is_scalar.false)
-    | else-least-x-via-else-least-x w ↦ answer_overlong _ _ _ _ done w.if-least-x.false
+      | else-least-x-via-then-least-x+else-is_scalar w ↦ answer_no_scalar _ _ _ _ done w.if-least-x.true (sym w.is_scalar.ensures ∙ w.if-is_scalar.false)
+      | else-least-x-via-else-least-x w ↦ answer_overlong _ _ _ _ done w.if-least-x.false
     ]

@@ -6,7 +6,7 @@ use native.Mathlib.Omega.{arith}
 use lib.ListN.{length}
 use Rattle.std.proofs.lemmas.List.{get_or-take, length-take}
 use Rattle.chars.proofs.Bytes.{and_l, and_r}
-use Rattle.chars.proofs.Blocks.{passed_none, passed_on, settled_start, cut_one, cut_two, cut_three, cut_none}
+use Rattle.chars.proofs.Blocks.{passed_none, passed_on, settled_start, cut_one, cut_two}
 use Rattle.chars.proofs.utf8.settle_blocks.Goals as goal
 
 pub loop-b-init : goal.loop-b-init
