@@ -8,7 +8,7 @@ ghost use Rattle.writer.specs.Promise.{Put};
 
 use crate::hex::{decode, put_head, put_hex};
 use crate::line::{BadLine, check_line};
-use sql_lexer::{Shaped, sanitize_string};
+use sql_lexer::sanitize_string;
 use tokens::refusal::Refusal;
 
 pub mod filled;
@@ -60,15 +60,8 @@ impl From<Refusal> for Frame {
     ghost from_gives = { λ why f. (text : List ℕ) → f ≡ in_numbers (framed text (refusal why)) };
 
     fn from(why: Refusal) -> Frame {
-        match why {
-            Refusal::TextTooLong(length) => refused_frame(1, length),
-            Refusal::NotUtf8(offset) => refused_frame(2, offset.0),
-            Refusal::NoRoomTokens(needed) => refused_frame(3, needed),
-            Refusal::BadCount(room) => refused_frame(4, room),
-            Refusal::BadToken(place) => refused_frame(5, place.0),
-            Refusal::CutChar(place) => refused_frame(6, place.0),
-            Refusal::NoRoomOut(needed) => refused_frame(7, needed),
-        }
+        let (number, detail) = why.numbers();
+        refused_frame(number, detail)
     }
 }
 
@@ -80,12 +73,12 @@ fn frame_text(work: &mut Work, count: usize) -> Frame
     ensures value { FramesText (take count work.old.text) work.old.slots work.old.out result work.new.slots work.new.out }
 {
     match sanitize_string(&work.text[..count], &mut work.slots, &mut work.out) {
-        Shaped::Done(figures) => Frame {
+        Ok(figures) => Frame {
             status: read_status(figures.stop.0, count),
             number: figures.stop.0,
             length: figures.length,
         },
-        Shaped::Refused(why) => Frame::from(why),
+        Err(why) => Frame::from(why),
     }
 }
 
