@@ -38,6 +38,7 @@ impl Guess {
 }
 
 // By the numbers that tools/guesses prints; None where no row has the key.
+// Stays: no plainer, since one match over three tables is all that differs by the sort, which the definitions take as a value.
 pub fn guess_row(sort: Sort, key: u32) -> Option<Guess>
     ensures { result ≡ guess_of sort key }
 {
