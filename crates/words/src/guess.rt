@@ -13,6 +13,7 @@ pub enum Sort {
 }
 
 // The row that a text can only be: where its letters start, how many they are, and its kind.
+// Stays: what may not change, since the definitions `letters` and `guess_of` and the theorem `lookup_is` name a row by its place.
 #[derive(Clone, Copy)]
 pub struct Guess {
     pub start: usize,
