@@ -22,7 +22,7 @@ pub struct Guess {
 }
 
 impl Guess {
-    pub fn new(start: usize, count: usize, kind: u32) -> Guess
+    pub(crate) fn new(start: usize, count: usize, kind: u32) -> Guess
         ensures { result ≡ record { start = start; count = count; kind = kind } }
     {
         Guess { start, count, kind }
