@@ -5,7 +5,7 @@
 -- byte_on, _off, _end  one turn of a loop over bytes
 -- byte_first           up to the first of two bytes, where all others pass and change nothing
 -- quote_passes, block_passes   the scans of rules 1 and 3
--- over_bytes, span_byte_on, _off, _end, _first   the same for a scan by a test
+-- over_bytes, span-taken, span_byte_off, _end, _first   the same for a scan by a test
 -- line_alike, run_alike   rules 2 and 7
 -- Assumes nothing.
 use mathlib.Core.Path.{◌≡◌, refl, sym, ap, ◌∙◌}
@@ -144,10 +144,6 @@ pub span-taken : (p : ℕ → Bool) (l : List ℕ) → length (take_while p l) �
 span-taken p l = length-prefix_len p l ∙ span-prefix p l
 
 module _ (p : ℕ → Bool) (t : List ℕ) (at : ℕ) where
-  pub span_byte_on : at < length t → not (p (get_or t at 0)) ≡ false → at + span p (drop at t) ≡ at + 1 + span p (drop (at + 1) t)
-  unfolding span
-  span_byte_on h e = byte_on {S = Unit {0}} (λ _ c. not (p c)) (λ seen _. seen) t at tt h e
-
   pub span_byte_off : at < length t → not (p (get_or t at 0)) ≡ true → at + span p (drop at t) ≡ at
   unfolding span
   span_byte_off h e = byte_off {S = Unit {0}} (λ _ c. not (p c)) (λ seen _. seen) t at tt h e

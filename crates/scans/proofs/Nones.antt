@@ -2,29 +2,26 @@
 -- from_on                         the text from an offset on
 -- none_here, none_more, none_join   nothing yet, one byte more, two stretches
 -- none_before, found_at           before the first of the two, and where it stands
--- none_blocks, over_blocks         blocks of sixteen bytes that hold neither
 -- found-none, found-some           what a look over blocks and then over bytes has found
 -- neither, second                   a byte that is not one of the two; one that is, and not the first
 -- Assumes nothing.
 use mathlib.Core.Path.{◌≡◌, refl, sym, ap, ◌∙◌}
 use mathlib.Core.Bool.{Bool, true, false, cond, not, ◌||◌, false≢true}
 use mathlib.Core.Logic.{◌⊎◌, inl, inr}
-use mathlib.Core.List.{List, [], ◌∷◌}
-use Prim.Native.Nat.{ℕ, zero, suc, ◌+◌, ◌-◌, ◌*◌, ◌/◌, ◌≤◌, ◌<◌}
+use mathlib.Core.List.{List}
+use Prim.Native.Nat.{ℕ, ◌+◌, ◌-◌, ◌≤◌, ◌<◌}
 use native.Mathlib.Nat.{eq-or-lt_of_le}
 use native.Mathlib.Decide.{dec_lt}
 use native.Mathlib.Omega.{arith}
 use lib.Dec.{eqb}
 use borrow.Author.Tests.{eqb-true, ne_eqb, ltb-true, ltb-false}
-use lib.ListN.{length, get_or, take, drop, length-take, length-drop}
-use lib.Seq.{get_or-take, get_or-drop}
+use lib.ListN.{length, get_or, take, drop, length-drop}
+use lib.Seq.{get_or-drop}
 use Rattle.std.specs.Prelude.{None, Some}
 use Rattle.std.specs.Bool.{nat_lt}
-use Rattle.std.specs.List.{prefix_len, position, position_or_len, take_while, count_by, filter}
-use Rattle.std.specs.Simd.{first_chunks}
-use Rattle.std.proofs.lemmas.List.Sums.{prefix_len_passes, prefix_len_stops, length-filter}
+use Rattle.std.specs.List.{position, position_or_len}
+use Rattle.std.proofs.lemmas.List.Sums.{prefix_len_passes, prefix_len_stops}
 use Rattle.std.proofs.lemmas.List.{take_all}
-use Rattle.std.proofs.lemmas.List.Folds.{length-prefix_len}
 use Rattle.chars.specs.Steps.{offset}
 use Rattle.chars.proofs.Scalars.{clash}
 use Rattle.scans.specs.Next.{is_of, NoneOf, FoundOf}
@@ -72,50 +69,6 @@ module _ (a b : ℕ) where
       not_false : (x : Bool) → not x ≡ false → x ≡ true
       not_false true e = refl
       not_false false e = sym e
-
-  -- a block that holds neither
-  abbrev pub plain : List ℕ → Bool
-  plain l = eqb (count_by (is_of a b) l) 0
-
-  none_filtered : (l : List ℕ) → length (filter (is_of a b) l) ≡ 0 → (i : ℕ) → i < length l → is_of a b (get_or l i 0) ≡ false
-  none_filtered [] e i h = absurd (omega arith)
-  none_filtered (c ∷ l) e i h = go (is_of a b c) refl e (none_filtered l) i h
-    where
-      go : (x : Bool) → is_of a b c ≡ x → length (cond x (c ∷ filter (is_of a b) l) (filter (is_of a b) l)) ≡ 0
-          → (length (filter (is_of a b) l) ≡ 0 → (i : ℕ) → i < length l → is_of a b (get_or l i 0) ≡ false)
-          → (i : ℕ) → i < suc (length l) → is_of a b (get_or (c ∷ l) i 0) ≡ false
-      go true q z ih i h = absurd (omega arith)
-      go false q z ih zero h = q
-      go false q z ih (suc i) h = ih z i (omega arith)
-
-  pub none_blocks : (n : ℕ) (t : List ℕ) → 16 * n ≤ length t
-      → let k = prefix_len plain (first_chunks 16 n t) in
-      (16 * k ≤ length t) × NoneOf a b t 0 (16 * k)
-  none_blocks zero t h = (omega arith, λ i l m. absurd (omega arith))
-  none_blocks (suc n) t h = go (plain (take 16 t)) refl (none_blocks n (drop 16 t) (simp length-drop (omega arith)))
-    where
-      go : (x : Bool) → plain (take 16 t) ≡ x
-          → (let k = prefix_len plain (first_chunks 16 n (drop 16 t)) in (16 * k ≤ length (drop 16 t)) × NoneOf a b (drop 16 t) 0 (16 * k))
-          → let k = cond x (1 + prefix_len plain (first_chunks 16 n (drop 16 t))) 0 in
-          (16 * k ≤ length t) × NoneOf a b t 0 (16 * k)
-      go false q ih = (omega arith, λ i l m. absurd (omega arith))
-      go true q ih =
-          let k : ℕ = prefix_len plain (first_chunks 16 n (drop 16 t)) in
-          let d : 16 ≤ length t = omega arith in
-          let first : NoneOf a b t 0 16 = λ i l m.
-          rw (get_or-take 16 t i 0 m) at (none_filtered (take 16 t) (length-filter (is_of a b) (take 16 t) ∙ eqb-true (count_by (is_of a b) (take 16 t)) 0 q) i (simp length-take (omega arith))) in
-          (omega (arith, length-drop 16 t, ih.0), none_join a b t 0 16 (16 * (1 + k)) first (λ i l m. none_after a b t 16 (16 * k) ih.1 i l (omega arith)))
-
--- from the offset from on, the blocks that hold neither
-pub over_blocks : (a b : ℕ) (t : List ℕ) (from k : ℕ) → from ≤ length t
-    → (let l = take (length t - from) (drop from t) in k ≡ length (take_while (plain a b) (first_chunks 16 (length l / 16) l)))
-    → (from + 16 * k ≤ length t) × NoneOf a b t from (from + 16 * k)
-over_blocks a b t from k h e =
-    let l = drop from t in
-    let n = none_blocks a b (length l / 16) l (omega arith) in
-    let d : k ≡ prefix_len (plain a b) (first_chunks 16 (length l / 16) l) =
-    rw (from_on t from) at e ∙ length-prefix_len (plain a b) (first_chunks 16 (length l / 16) l) in
-    rw d (omega (arith, length-drop from t, n.0), none_after a b t from (16 * prefix_len (plain a b) (first_chunks 16 (length l / 16) l)) n.1)
 
 -- a look from the offset from on, over blocks up to the offset at, and then over bytes
 module _ (a b : ℕ) (t : List ℕ) (from at : ℕ) (after : from ≤ at) (within : at ≤ length t) (none : NoneOf a b t from at) where

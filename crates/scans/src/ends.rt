@@ -11,7 +11,8 @@ use crate::next::next_of;
 use chars::offset::Offset;
 use chars::utf8::{Step, step_at};
 
-// By characters, from the first that is not ASCII on.
+// By characters, from the first that is not ASCII on. Apart, so that its calls cost an ASCII text nothing.
+#[inline(never)]
 fn wide_end<R: StopRule>(text: &[u8], from: Offset) -> Offset
     ensures { result ≡ offset (reach (span (goes_on pinned R.stop)) text.now from.0) }
 {

@@ -1,9 +1,9 @@
 // The first of two bytes that matter to a scan, by blocks of sixteen bytes that hold neither.
 #![tactic(auto, unfolding(crate::specs::Next::is_of))]
 
-ghost use Rattle.std.specs.Prelude.{◌≡◌, ◌≤◌, ◌==◌, length, count_by};
-ghost use Rattle.std.specs.List.{position, take_while};
-ghost use Rattle.scans.specs.Next.{is_of, FoundOf};
+ghost use Rattle.std.specs.Prelude.{◌≡◌, true, ◌+◌, ◌≤◌, length};
+ghost use Rattle.std.specs.List.{position};
+ghost use Rattle.scans.specs.Next.{is_of, NoneOf, FoundOf};
 
 use chars::offset::Offset;
 
@@ -14,20 +14,30 @@ fn is_of(c: u8, a: u8, b: u8) -> bool
 }
 
 // Counted to the end and not up to the first: so sixteen bytes are compared at once.
-fn is_plain(block: &[u8; 16], a: u8, b: u8) -> bool
-    ensures { result ≡ (count_by (is_of a b) block.now == 0) }
+// Stays: tried and slower, 2,000 bytes in 2,240 ns by `filter` and `count`, in 577 by a `for` over an array of sixteen, in 166 by `fold`, and in 138 so.
+fn plain_block(text: &[u8], at: usize, a: u8, b: u8) -> bool
+    requires { at + 16 ≤ length text.now }
+    ensures { result ≡ true → NoneOf a b text.now at (at + 16) }
 {
-    block.iter().filter(|c| is_of(**c, a, b)).count() == 0
+    let mut others: usize = 0;
+    for i in 0..16 {
+        if !is_of(text[at + i], a, b) {
+            others += 1;
+        }
+    }
+    others == 16
 }
 
-// How many blocks from the front on hold neither.
-fn plain_blocks(blocks: &[[u8; 16]], a: u8, b: u8) -> usize
-    ensures { result ≡ length (take_while (λ block. count_by (is_of a b) block == 0) blocks.now) }
+// Stays: its stride is sixteen, and over `as_chunks` it was slower, as above.
+fn over_blocks(text: &[u8], from: usize, a: u8, b: u8) -> usize
+    requires { from ≤ length text.now }
+    ensures { (from ≤ result) × (result ≤ length text.now) × NoneOf a b text.now from result }
 {
-    blocks
-        .iter()
-        .take_while(|block| is_plain(block, a, b))
-        .count()
+    let mut at = from;
+    while 16 <= text.len() - at && plain_block(text, at, a, b) {
+        at += 16;
+    }
+    at
 }
 
 fn position_of(text: &[u8], a: u8, b: u8) -> Option<usize>
@@ -36,12 +46,12 @@ fn position_of(text: &[u8], a: u8, b: u8) -> Option<usize>
     text.iter().position(|c| is_of(*c, a, b))
 }
 
+// Where the first of the two stands, from an offset on.
 pub fn next_of(text: &[u8], from: Offset, a: u8, b: u8) -> Option<Offset>
     requires { from.0 ≤ length text.now }
     ensures { FoundOf a b text.now from.0 result }
 {
-    let (blocks, _) = text[from.0..].as_chunks::<16>();
-    let at = from.0 + 16 * plain_blocks(blocks, a, b);
+    let at = over_blocks(text, from.0, a, b);
     let next = position_of(&text[at..], a, b)?;
     Some(Offset(at + next))
 }
