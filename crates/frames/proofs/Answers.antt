@@ -3,7 +3,6 @@
 -- line_passes                         it finds nothing: the line is short and each character hexadecimal
 -- shown_output                        a refusal's frame has no shape, and the output is as it was
 -- figures_are                         where the one call is done, its numbers are the figures
--- framed_as                           the frame of a refusal, which is one of the seven
 -- shaped_frame, refused_text          the frame of a statement
 -- fine-line, bad_line_lem                 the frame of a line
 -- shown_fits, shown_back              the shape at the front of the output
@@ -29,8 +28,7 @@ use Rattle.writer.specs.Written.{onto}
 use Rattle.writer.specs.Promise.{check_out, Put}
 use Rattle.sql_lexer.specs.Promise.{shape, figures, string_answer, string_slots, string_out, SanitizesString, paper}
 use Rattle.sql_lexer.specs.declared.Figures.{Figures}
-use Rattle.sql_lexer.specs.declared.Shaped.{Shaped}
-use Rattle.sql_lexer.specs.declared.Shaped.TheVariants.{Done, Refused}
+use Rattle.std.specs.Prelude.{Result, Ok, Err}
 use Rattle.frames.specs.declared.Frame.{Frame}
 use Rattle.frames.specs.Hex.{first_not_hex, hex_bytes}
 use Rattle.frames.specs.Frames.{line_limit, bad_line, check_line, line_answer, Shown, read_status, framed, frame_of, in_numbers, shown_over, FramesText, FramesLine}
@@ -53,9 +51,6 @@ module _ (line : List ℕ) where
       go false false p q f =
           let l : length line ≤ first_not_hex line = ltb-false (first_not_hex line) (length line) q in
           (ltb-false line_limit (length line) p, omega (arith, hex_le line))
-
-pub framed_as : (text : List ℕ) {why r : Refusal} {f : Frame} → f ≡ in_numbers (framed text (refusal r)) → why ≡ r → f ≡ in_numbers (framed text (refusal why))
-framed_as text e is = rw is e
 
 pub shown_output : (text out : List ℕ) (a : Answer) → afterwards a (onto (shape pinned text) out) out ≡ onto (framed text a).shape out
 shown_output text out (done ns) = refl
@@ -80,7 +75,7 @@ module _ (text ws out : List ℕ) (ew : length ws ≡ 12288) (eo : length out �
   unfolding string_out
   output e = e ∙ shown_output text out (string_answer pinned text (room ws) (length out)) ∙ ap (λ (a : Answer). onto (framed text a).shape out) rooms
 
-  pub shaped_frame : {f : Figures} {s : Shaped} {ws' out' : List ℕ} (status : ℕ) → status ≡ read_status f.stop.0 (length text) → s ≡ Done f → SanitizesString text ws out s ws' out'
+  pub shaped_frame : {f : Figures} {s : (Result Figures Refusal)} {ws' out' : List ℕ} (status : ℕ) → status ≡ read_status f.stop.0 (length text) → s ≡ Ok f → SanitizesString text ws out s ws' out'
       → FramesText text ws out (record { status = status; number = f.stop.0; length = f.length }) ws' out'
   unfolding figures
   shaped_frame {f} {s} status e is p =
@@ -95,7 +90,7 @@ module _ (text ws out : List ℕ) (ew : length ws ≡ 12288) (eo : length out �
         slots = p.buffers.0;
       }
 
-  pub refused_text : {why : Refusal} {s : Shaped} {ws' out' : List ℕ} {r : Frame} → r ≡ in_numbers (framed text (refusal why)) → s ≡ Refused why → SanitizesString text ws out s ws' out'
+  pub refused_text : {why : Refusal} {s : (Result Figures Refusal)} {ws' out' : List ℕ} {r : Frame} → r ≡ in_numbers (framed text (refusal why)) → s ≡ Err why → SanitizesString text ws out s ws' out'
       → FramesText text ws out r ws' out'
   refused_text e is p = record {
     answer = e ∙ ap (λ (a : Answer). in_numbers (framed text a)) (sym (ap paper is) ∙ p.answer ∙ rooms);
