@@ -2,7 +2,7 @@
 -- exposed_end, _on             the count of the tokens from a place on
 -- accept                       the promise of a list that is accepted
 -- Assumes nothing.
-use mathlib.Core.Path.{◌≡◌, sym, ap, ◌∙◌}
+use mathlib.Core.Path.{◌≡◌, ap, ◌∙◌}
 use mathlib.Core.Bool.{Bool, true, false, cond}
 use mathlib.Core.List.{List, [], ◌∷◌}
 use Prim.Native.Nat.{ℕ, suc, ◌+◌, ◌≤◌, ◌<◌}
@@ -12,13 +12,11 @@ use lib.ListN.{length, drop, drop_of_length-le}
 use lib.Seq.{drop-cons}
 use Rattle.tokens.specs.Kinds as kind
 use Rattle.tokens.specs.Slots.{bare, room, tokens_in, laid}
-use Rattle.tokens.specs.Answers.{Answer, done, refusal}
+use Rattle.tokens.specs.Answers.{Answer, done}
 use Rattle.tokens.specs.Checks.{◌then◌, fine, check_count, check_form, afterwards}
 use Rattle.tokens.specs.declared.slot.Slot.{Slot}
-use Rattle.tokens.specs.declared.refusal.Refusal.{Refusal}
-use Rattle.tokens.proofs.Checking.{refusal-then, refusal_after}
 use Rattle.tokens.proofs.Storing.{left_laid}
-use Rattle.std.specs.Prelude.{Ok, Err}
+use Rattle.std.specs.Prelude.{Ok}
 use Rattle.sanitizer.specs.Scans.{kind_at}
 use Rattle.sanitizer.specs.Run.{sanitized}
 use Rattle.sanitizer.specs.Exposed.{exposed, is_exposed}

@@ -20,7 +20,11 @@ use tokens::slot::Slot;
 fn slice_of(text: &[u8], slot: Slot) -> &[u8]
     ensures { result.now ≡ slice_of text.now slot }
 {
-    buffer_content(text, Offset(slot.first as usize), Offset(slot.second as usize))
+    buffer_content(
+        text,
+        Offset(slot.first as usize),
+        Offset(slot.second as usize),
+    )
 }
 
 // How many kinds there are.
@@ -89,7 +93,9 @@ pub fn put_token(page: &mut Page, text: &[u8], slot: Slot)
             page.push(b'_');
             page.push_all(slice_of(text, slot));
         }
-        kind::OTHER | kind::NUMERIC..=kind::NUMBERED_PLACEHOLDER => page.push_all(slice_of(text, slot)),
+        kind::OTHER | kind::NUMERIC..=kind::NUMBERED_PLACEHOLDER => {
+            page.push_all(slice_of(text, slot));
+        }
         kind::UNKNOWN => page.push_char(slot.first),
         _ => page.push_fixed(kind),
     }
