@@ -60,7 +60,7 @@ impl Page<'_> {
     }
 
     // A scalar value in UTF-8, as RFC 3629 writes it. It is rare, and apart from the frequent texts the loop that writes them stays small.
-    // Stays: the widths are told apart here as must-fail/utf8_width.edit holds them; `char::encode_utf8` says nothing of the buffer that it filled.
+    // Stays: what may not change: must-fail/utf8_width.edit holds the widths told apart here, and `char::encode_utf8` says nothing of the buffer that it filled.
     #[tactic(auto, using(chars::proofs::Whole::encode_1, chars::proofs::Whole::encode_2, chars::proofs::Whole::encode_3, chars::proofs::Whole::encode_4))]
     #[inline(never)]
     pub fn push_char(&mut self, c: u32)
