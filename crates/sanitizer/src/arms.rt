@@ -22,7 +22,7 @@ pub enum State {
 }
 
 // What an arm does at a place.
-// Stays: an enum and no closure, as the table of specs/Arms.antt, which may not change, names for each arm what it does.
+// Stays: what may not change: an enum and no closure, as the table of specs/Arms.antt names for each arm what it does.
 #[derive(Clone, Copy)]
 pub enum Does {
     // Goes on in the same state.

@@ -20,7 +20,7 @@ pub mod scan;
 pub mod turn;
 
 // All turns, from the first place on.
-// Stays: `slots` and `count` are two parameters, as C lends them; a struct of both would be no plainer, as each turn changes the slots.
+// Stays: the C interface lends `slots` and `count` apart; a struct of both would be no plainer, as each turn changes the slots.
 fn pass(slots: &mut [u32], count: usize)
     requires { (count ≤ room slots.old) × Known (tokens_in slots.old count) }
     ensures { Left count slots.old slots.new (sanitized (tokens_in slots.old count)) }
@@ -29,7 +29,7 @@ fn pass(slots: &mut [u32], count: usize)
         next: Place(0),
         state: State::Default,
     };
-    // Stays: a turn goes on by a place or by many, so that no `for` has its step.
+    // Stays: no plainer: a turn goes on by a place or by many, so that no `for` has its step.
     while turn.next.0 < count {
         turn = turn_at(slots, count, turn.next, turn.state);
     }

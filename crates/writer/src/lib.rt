@@ -23,7 +23,7 @@ pub mod survey;
 pub mod token;
 
 // The length of the whole text.
-// Stays: `slots` and `count` are two parameters, as C lends them; a struct of both would be no plainer, as `write` gets its fact from `check_count`.
+// Stays: the C interface lends `slots` and `count` apart; a struct of both would be no plainer, as `write` gets its fact from `check_count`.
 pub fn measure(text: &[u8], slots: &[u32], count: usize) -> usize
     requires { (length text.now ≤ limit) × (count ≤ limit) × (count ≤ room slots.now) }
     ensures { result ≡ length (written text.now (tokens_in slots.now count)) }
