@@ -4,7 +4,7 @@
 -- carrying        which of them carry offsets: 66, and 76 to 82
 -- Assumes nothing.
 use mathlib.Core.Path.{◌≡◌, refl}
-use mathlib.Core.Bool.{Bool, true, false, ◌&&◌, cond}
+use mathlib.Core.Bool.{Bool, cond}
 use mathlib.Core.List.{List, [], ◌∷◌, ◌++◌, map}
 use Prim.Native.Nat.{ℕ, suc, ◌-◌}
 use Rattle.tokens.specs.Tabled.{tabled}

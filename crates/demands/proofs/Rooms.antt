@@ -15,10 +15,9 @@ use native.Mathlib.Omega.{arith}
 use lib.Dec.{ltb}
 use lib.ListN.{length, drop}
 use lib.Seq.{take-append_seam, take-length}
-use Rattle.tokens.specs.declared.slot.Slot.{Slot}
 use Rattle.tokens.specs.Slots.{words_per_slot, room, tokens_in}
 use Rattle.tokens.specs.Answers.{Answer, done, refused, no_room_tokens, no_room_out}
-use Rattle.tokens.specs.Checks.{◌then◌, fine, check_text, check_count, check_form, afterwards}
+use Rattle.tokens.specs.Checks.{◌then◌, fine, check_count, check_form, afterwards}
 use Rattle.tokens.proofs.Checking.{text_within, form_fine}
 use Rattle.scans.specs.Ways.{pinned}
 use Rattle.lexer.specs.Read.{stop_at, reading}

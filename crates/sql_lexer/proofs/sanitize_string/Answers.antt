@@ -1,6 +1,6 @@
 -- `sql_lexer::sanitize_string` meets its contract: what each stage leaves is what the next asks for, and each answer is a case of
 -- `string_answer`. Assumes nothing.
-use mathlib.Core.Path.{◌≡◌, refl, ap, subst, ◌∙◌}
+use mathlib.Core.Path.{◌≡◌, refl, ap, ◌∙◌}
 use mathlib.Core.List.{List}
 use Prim.Native.Nat.{ℕ}
 use native.Mathlib.Omega.{arith}
@@ -8,13 +8,11 @@ use lib.ListN.{length}
 use Rattle.tokens.specs.declared.slot.Slot.{Slot}
 use Rattle.tokens.specs.Slots.{tokens_in}
 use Rattle.scans.specs.Ways.{pinned}
-use Rattle.lexer.specs.Lexes.{Lexes}
 use Rattle.std.proofs.lemmas.Result.{err_from_is_err_and}
-use Rattle.chars.specs.declared.offset.Offset.{Offset}
 use Rattle.lexer.proofs.Turns.{tokens_few}
 use Rattle.writer.specs.Written.{written, onto}
 use Rattle.sql_lexer.specs.Promise.{shape}
-use Rattle.sql_lexer.proofs.Stages.{Readied, lex_readied, readied_known, Cleaned, cleaned}
+use Rattle.sql_lexer.proofs.Stages.{lex_readied, readied_known, Cleaned, cleaned}
 use Rattle.sql_lexer.proofs.Answers.{not_read, no_room, shaped}
 use Rattle.sql_lexer.proofs.sanitize_string.Goals as goal
 
