@@ -13,7 +13,7 @@ use chars::offset::Offset;
 use tokens::check::check_text;
 use tokens::place::Place;
 use tokens::refusal::Refusal;
-use tokens::slot::{Slot, bare, put, whole_slots};
+use tokens::slot::{Slot, put, whole_slots};
 
 // How many tokens were read, and where the reading stopped.
 #[derive(Clone, Copy, PartialEq, Eq, Debug)]
@@ -44,7 +44,7 @@ fn walk(text: &[u8], slots: &mut [u32], upto: usize) -> Lexed
     let mut state = State::Default;
     while at < text.len() {
         if let Some(mark) = mark_of(text[at]) {
-            keep(slots, upto, Place(n), bare(mark));
+            keep(slots, upto, Place(n), mark.bare());
             at += 1;
             n += 1;
             continue;

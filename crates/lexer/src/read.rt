@@ -16,7 +16,7 @@ use scans::ends::{
     block_end, charset_end, line_end, number_end, numerics_end, quote_end, run_end, word_end,
 };
 use tokens::kind::Kind;
-use tokens::slot::{Slot, bare};
+use tokens::slot::Slot;
 use words::guess::Sort;
 use words::known::{known_kind, zero_kind};
 
@@ -98,7 +98,7 @@ fn read_single(at: Offset, kind: Kind) -> Option<Taken>
     ensures { result ≡ taken (bare (named.number kind)) (offset (at.0 + 1)) }
 {
     Some(Taken {
-        slot: bare(kind),
+        slot: kind.bare(),
         next: Offset(at.0 + 1),
     })
 }
@@ -124,7 +124,7 @@ fn read_run(text: &[u8], at: Offset) -> Option<Taken>
     let (from, to) = (at.0, end.0);
     let kind = known_kind(Sort::Runs, &text[from..to])?;
     Some(Taken {
-        slot: bare(kind),
+        slot: kind.bare(),
         next: end,
     })
 }
@@ -151,7 +151,7 @@ fn read_word(text: &[u8], at: Offset) -> Option<Taken>
     let (from, to) = (at.0, end.0);
     match known_kind(Sort::Words, &text[from..to]) {
         Some(kind) => Some(Taken {
-            slot: bare(kind),
+            slot: kind.bare(),
             next: end,
         }),
         None => Some(Taken {
@@ -181,7 +181,7 @@ fn read_number(text: &[u8], at: Offset) -> Option<Taken>
     let (from, to) = (at.0, end.0);
     match zero_kind(&text[from..to]) {
         Some(kind) => Some(Taken {
-            slot: bare(kind),
+            slot: kind.bare(),
             next: end,
         }),
         None => Some(Taken {

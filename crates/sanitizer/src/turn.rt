@@ -11,7 +11,7 @@ use crate::arms::{Arm, Does, State, choose};
 use crate::scan::{close_from, is_dotted, kind_at, rows_from};
 use tokens::kind::Kind;
 use tokens::place::Place;
-use tokens::slot::{bare, put};
+use tokens::slot::put;
 
 // Where to read next, and in which state.
 #[derive(Clone, Copy)]
@@ -25,7 +25,7 @@ fn replace(slots: &mut [u32], place: Place, kind: Kind)
     requires { place.0 < room slots.old }
     ensures { slots.new ≡ stored slots.old place.0 (bare (number kind)) }
 {
-    put(slots, place, bare(kind));
+    put(slots, place, kind.bare());
 }
 
 // Blanks the places from one up to, not including, another.

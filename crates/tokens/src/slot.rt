@@ -19,14 +19,23 @@ pub struct Slot {
 // How many words a slot is.
 const WORDS: usize = 3;
 
-// A token that carries nothing.
-pub fn bare(kind: Kind) -> Slot
-    ensures { result ≡ bare (number kind) }
+// A token that carries nothing, by its kind's number.
+pub fn bare(kind: u32) -> Slot
+    ensures { result ≡ bare kind }
 {
     Slot {
-        kind: u32::from(kind),
+        kind,
         first: 0,
         second: 0,
+    }
+}
+
+impl Kind {
+    // A token of this kind that carries nothing.
+    pub fn bare(self) -> Slot
+        ensures { result ≡ bare (number self) }
+    {
+        bare(u32::from(self))
     }
 }
 

@@ -22,8 +22,15 @@ fn is_faulty(text: &[u8], slot: Slot) -> bool
     !is_well_formed(slot) || is_cut(text, slot)
 }
 
-// The length of the whole text, or the place of the first token that may not be written.
-pub fn survey(text: &[u8], slots: &[u32], count: usize) -> Result<usize, Place>
+// The first token that may not be written, and the length of the text before it.
+#[derive(Clone, Copy, PartialEq, Eq, Debug)]
+pub struct Fault {
+    pub place: Place,
+    pub total: usize,
+}
+
+// The length of the whole text, or the first token that may not be written.
+pub fn survey(text: &[u8], slots: &[u32], count: usize) -> Result<usize, Fault>
     requires { (length text.now ≤ limit) × (count ≤ limit) × (count ≤ room slots.now) }
     ensures { Surveyed text.now slots.now count result }
 {
@@ -31,7 +38,10 @@ pub fn survey(text: &[u8], slots: &[u32], count: usize) -> Result<usize, Place>
     for i in 0..count {
         let slot = slot_at(slots, Place(i));
         if is_faulty(text, slot) {
-            return Err(Place(i));
+            return Err(Fault {
+                place: Place(i),
+                total,
+            });
         }
         total += token_len(text, slot);
     }

@@ -5,7 +5,7 @@ use Prim.Native.Nat.{ℕ, ◌≤◌}
 use native.Mathlib.Omega.{arith}
 use lib.ListN.{length}
 use Rattle.std.specs.Prelude.{Result, Ok, Err, MatchResult}
-use Rattle.tokens.specs.declared.place.Place.{Place}
+use Rattle.writer.specs.declared.survey.Fault.{Fault}
 use Rattle.tokens.specs.declared.refusal.Refusal.{Refusal}
 use Rattle.tokens.specs.Checks.{fine, check_text, check_count}
 use Rattle.tokens.specs.Slots.{tokens_in}
@@ -28,7 +28,7 @@ module _ (text ws : List ℕ) (n : ℕ) where
   abbrev done_with : ℕ → Result ℕ Refusal
   done_with total = Ok total
 
-  seen : {total : ℕ} (r : Result ℕ Place) → Surveyed text ws n r → MatchResult r (λ x. done_with total ≡ Ok x) (λ e. ⊥)
+  seen : {total : ℕ} (r : Result ℕ Fault) → Surveyed text ws n r → MatchResult r (λ x. done_with total ≡ Ok x) (λ e. ⊥)
       → (first_place (faulty text) ts ≡ n) × (total ≡ length (written text ts))
   seen {total} (Ok x) p e = let same : total ≡ x = cc in (p.0, same ∙ p.1)
   seen (Err at) p e = absurd e
@@ -52,7 +52,7 @@ survey-requires c =
     (short.0, numbers.0, numbers.1)
 
 pub map_err-requires : goal.map_err-requires
-map_err-requires c = λ e is κs b w r u v f l.
+map_err-requires c = λ e is κs b w r u v f l m.
     let numbers = count_passes c.args.slots.now c.args.count (sym c.in_ok-check_count.ensures) in
     let found = rw is at c.survey.ensures in
     (numbers.1, found.0, found.1)

@@ -33,7 +33,7 @@ loop-i-init c = (refl, omega arith, refl)
 pub returns-then-is_faulty : goal.returns-then-is_faulty
 returns-then-is_faulty c =
     let x = c.args in
-    (omega arith, sym (place_found (faulty x.text.now) x.slots.now c.loop-i.i x.count (omega arith) c.loop-i.invariant.2 (here x.text.now x.slots.now c.loop-i.i c.is_faulty.ensures c.slot_at-slot.ensures ∙ c.if-is_faulty.true)))
+    (omega arith, sym (place_found (faulty x.text.now) x.slots.now c.loop-i.i x.count (omega arith) c.loop-i.invariant.2 (here x.text.now x.slots.now c.loop-i.i c.is_faulty.ensures c.slot_at-slot.ensures ∙ c.if-is_faulty.true)), c.loop-i.invariant.0)
 
 pub overflow_add-total : goal.overflow_add-total
 overflow_add-total c = omega (arith, (more c).1)
