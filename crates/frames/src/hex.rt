@@ -25,6 +25,7 @@ fn place_not_hex(line: &[u8]) -> Option<usize>
 }
 
 // The place of the first character that is not hexadecimal, or the line's length.
+// Stays: the length stands for none; what may not change: `first_not_hex` (specs/Hex.antt), which `check_line` and `decode` cite.
 pub fn first_not_hex(line: &[u8]) -> usize
     ensures { result ≡ first_not_hex line.now }
 {

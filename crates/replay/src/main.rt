@@ -97,11 +97,10 @@ fn run(stdin: Stdin, stdout: Stdout, lent: &mut Lent) {
     let mut buf = [0; 65536];
     // No input has as many chunks as this; the bound shows that the loop ends.
     for _ in 0..u64::MAX {
-        let n = input.read(&mut buf).unwrap_or(0);
-        if n == 0 {
-            return;
+        match input.read(&mut buf) {
+            Ok(n) if 0 < n => feed(stdout, &buf[..n], &mut line, lent),
+            _ => return,
         }
-        feed(stdout, &buf[..n], &mut line, lent);
     }
 }
 
