@@ -53,7 +53,12 @@ pub fn write(text: &[u8], slots: &[u32], count: usize, out: &mut [u8]) -> Result
 {
     check_text(text)?;
     check_count(slots, count)?;
-    let total = survey(text, slots, count).map_err(|fault| refusal_at(text, slots, count, fault.place))?;
+    let total = survey(text, slots, count).map_err(|fault| refusal_at(
+        text,
+        slots,
+        count,
+        fault.place,
+    ))?;
     if out.len() < total {
         return Err(Refusal::NoRoomOut(total));
     }
