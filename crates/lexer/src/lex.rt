@@ -42,6 +42,7 @@ fn walk(text: &[u8], slots: &mut [u32], upto: usize) -> Lexed
     let mut at = 0;
     let mut n = 0;
     let mut state = State::Default;
+    // Stays: no plainer as a `for`: a token takes as many bytes as it has.
     while at < text.len() {
         if let Some(mark) = mark_of(text[at]) {
             keep(slots, upto, Place(n), mark.bare());

@@ -1,4 +1,5 @@
 // One token: a small reader for each rule, and the choice among them. A reader is called from one place, so that it stands in the loop.
+// Stays: a text and an offset apart: no plainer as a struct: the readers ask three facts of where they stand (`Readable`, `Ascii`, `Leads`), and scans takes both.
 ghost use Rattle.std.specs.Prelude.{◌≡◌, ◌+◌, ◌≤◌, ◌<◌, length};
 ghost use Rattle.chars.specs.Steps.{offset};
 ghost use Rattle.tokens.specs.Named as named;
@@ -213,6 +214,7 @@ pub fn read_one(text: &[u8], at: Offset, state: State) -> Option<Taken>
     requires { Readable text.now at.0 }
     ensures { result ≡ read_by (read_one pinned (star_before text.now at.0) state) text.now at.0 }
 {
+    // Stays: no plainer as closures: an enum with one `match`, whose arms stand in the order of the rules.
     match rule_at(text, at, state) {
         Rule::Quoted(kind) => read_quoted(text, at, kind),
         Rule::Line => read_line(text, at),

@@ -45,7 +45,8 @@ fn star_kind(state: State) -> Kind
     }
 }
 
-// The numbers of the kinds that a state hangs on. A token's slot has its kind as a number.
+// The numbers of the kinds that a state hangs on.
+// Stays: what may not change: `state_after`, which docs/PROMISES.md names, takes any number, as a token's slot has it.
 const SELECT: u32 = Kind::Select as u32;
 
 const FROM: u32 = Kind::From as u32;

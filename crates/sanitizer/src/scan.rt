@@ -9,7 +9,8 @@ use tokens::kind::Kind;
 use tokens::place::Place;
 use tokens::slot::slot_at;
 
-// The numbers of the kinds that are looked for: a lent slot has its kind as a number.
+// The numbers of the kinds that are looked for.
+// Stays: the C interface lends slots as words, and `kind_at` answers the word that is there.
 const SPACE: u32 = Kind::Space as u32;
 
 const DOT: u32 = Kind::Dot as u32;
@@ -48,6 +49,7 @@ fn is_close(kind: u32) -> bool
 }
 
 // The place of the first close of either sort from a place on; the count, where there is none.
+// Stays: the count stands for none: what may not change: `close_at` (specs/Scans.antt), and the turn goes on at it either way.
 pub fn close_from(slots: &[u32], count: usize, from: Place) -> Place
     requires { (from.0 ≤ count) × (count ≤ room slots.now) }
     ensures { (result.0 ≡ close_at (tokens_in slots.now count) from.0) × (from.0 ≤ result.0) × (result.0 ≤ count) }

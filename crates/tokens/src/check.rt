@@ -22,6 +22,7 @@ pub fn check_text(text: &[u8]) -> Result<(), Refusal>
 }
 
 // 4 BadCount.
+// Stays: the C interface lends `slots` and `count` apart, and here it is found out whether they fit.
 #[tactic(auto, unfolding(crate::specs::Checks::check_count))]
 pub fn check_count(slots: &[u32], count: usize) -> Result<(), Refusal>
     ensures { checked result ≡ check_count slots.now count }

@@ -9,6 +9,7 @@ use crate::place::Place;
 use crate::slot::{Slot, slot_at};
 
 // The numbers between which the kinds differ in what they may carry.
+// Stays: the C interface lends a kind as a word that may hold any number, and document 01 names this form: a match over the number with its ranges.
 const NONE: u32 = Kind::None as u32;
 
 const OTHER: u32 = Kind::Other as u32;

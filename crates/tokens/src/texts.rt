@@ -98,6 +98,7 @@ impl Kind {
 }
 
 // The fixed text of a kind by its number: empty for a number that no kind has.
+// Stays: what may not change: `fixed_text`, which docs/PROMISES.md names, takes any number.
 #[tactic(auto, using(crate::proofs::Rows::text_none))]
 pub fn fixed_text(kind: u32) -> &'static [u8]
     ensures { result.now ≡ text_of kind }

@@ -15,6 +15,7 @@ pub enum Sort {
 }
 
 // By the keys that tools/guesses prints; None where no row has the key.
+// Stays: no plainer as a trait or a closure: three tables that differ in their rows, and one `match`.
 pub fn guess_row(sort: Sort, key: u32) -> Option<Known>
     ensures { option_map as_row result ≡ guess_of sort key }
 {

@@ -15,6 +15,7 @@ use tokens::slot::Slot;
 use tokens::texts::fixed_text;
 
 // The number of the one kind that carries a character.
+// Stays: the C interface lends slots as words, and `token_len` is asked of slots that hold any number.
 const UNKNOWN: u32 = Kind::Unknown as u32;
 
 // The part of the statement that a token's offsets name.
