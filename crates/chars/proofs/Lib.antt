@@ -10,7 +10,6 @@ pub mod Encoded
 pub mod Whole
 pub mod Rfc
 pub mod Breaks
-pub mod Verdicts
 pub mod Halving
 pub mod Rule
 pub mod Spelled

@@ -1,6 +1,6 @@
 -- Counting the characters of a text by the step.
 -- Counting        those passed and those to come are all of them
--- counting_start  none passed; counting_on one more; counting_done, no_more none to come
+-- counting_on     one more is passed; counting_done, no_more none to come
 -- Assumes nothing.
 use mathlib.Core.Path.{◌≡◌, refl, sym, ap}
 use mathlib.Core.Logic.{inl, inr}
@@ -19,9 +19,6 @@ pub record Counting (t : List ℕ) (count at : ℕ) : Type 0 where
   pub few : count ≤ at
   pub inside : at ≤ length t
   pub total : count + length (chars (drop at t)) ≡ length (chars t)
-
-pub counting_start : (t : List ℕ) → Counting t 0 0
-counting_start t = record { few = zero-le; inside = zero-le; total = omega arith }
 
 pub counting_on : {t : List ℕ} {count at s next : ℕ} → Counting t count at → Stepped t at s next → Counting t (count + 1) next
 counting_on k step = record {

@@ -19,7 +19,7 @@ use Rattle.tokens.specs.declared.kind.Kind.TheVariants as the
 use Rattle.sanitizer.specs.declared.arms.State.{State}
 use Rattle.sanitizer.specs.declared.arms.State.TheVariants.{Default, ComparisonOperator, InsertValues, InsertValuesJustClosed, JoinOn, Offset, Between, Keyword, KeywordScopeStarted, Array, ArrayStarted}
 use Rattle.sanitizer.specs.Arms.{Rule, rules, first_from, arm_of, arm, when}
-use Rattle.tokens.proofs.Arms.{and_l, and_r}
+use Rattle.tokens.proofs.Halves.{and_l, and_r}
 
 -- ---- the rule that decides
 first_far : (rs : List Rule) (n : ℕ) (s : State) (k : ℕ) → n ≤ first_from n rs s k

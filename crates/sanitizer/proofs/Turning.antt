@@ -2,7 +2,7 @@
 -- left_put                     what a store of a bare token leaves
 -- left_by                      work on top of work
 -- blank_step, blank_done       blanking one place at a time
--- Leads, leads_start, _more, _done   blanking leads on to what is left to blank
+-- Leads, leads_more, _done   blanking leads on to what is left to blank
 -- left_is                      what is left, by an equal list
 -- before_stored                the kind before a place that was stored to
 -- comment_first, _other, _spaced   what removing a comment leaves
@@ -54,9 +54,6 @@ abbrev pub Leads : List ℕ → List ℕ → ℕ → ℕ → ℕ → Type 0
 Leads ws ws' p q e =
     (n : ℕ) → e ≤ n → n ≤ room ws
     → Left n ws ws' (tokens_in ws' n) × (blank q (e - q) (tokens_in ws' n) ≡ blank p (e - p) (tokens_in ws n))
-
-pub leads_start : (ws : List ℕ) (p e : ℕ) → Leads ws ws p p e
-leads_start ws p e = λ n h l. (left_same n ws, refl)
 
 module _ (ws ws' : List ℕ) where
   pub leads_more : (ws'' : List ℕ) (p q e : ℕ) → q < e → length ws' ≡ length ws → ws'' ≡ stored ws' q (bare kind.None) → Leads ws ws' p q e → Leads ws ws'' p (q + 1) e

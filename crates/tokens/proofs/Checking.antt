@@ -1,7 +1,7 @@
 -- The checks by facts of numbers: which answer each gives.
 -- text_long, text_within             check_text
 -- text_passes                        it finds nothing: the length is within the limit and no byte is bad
--- count_over, count_whole, count_fine, count_passes   check_count
+-- count_passes                       check_count finds nothing
 -- form_bad, form_fine, form_passes   check_form
 -- then_assoc                         checks one after the other
 -- list_passes                        check_count and check_form find nothing
@@ -45,18 +45,6 @@ module _ (text : List ℕ) where
       go false (some at) p q f = clash (cc)
 
 module _ (ws : List ℕ) (n : ℕ) where
-  pub count_over : limit < n → check_count ws n ≡ bad_count (room ws)
-  unfolding check_count
-  count_over h = simp (lt-ltb limit n h)
-
-  pub count_whole : room ws < n → check_count ws n ≡ bad_count (room ws)
-  unfolding check_count
-  count_whole h = simp (lt-ltb (room ws) n h, or-true)
-
-  pub count_fine : n ≤ limit → n ≤ room ws → check_count ws n ≡ fine
-  unfolding check_count
-  count_fine h g = simp (le-ltb limit n h, le-ltb (room ws) n g)
-
   pub count_passes : check_count ws n ≡ fine → (n ≤ limit) × (n ≤ room ws)
   unfolding check_count
   count_passes e = go (ltb limit n) (ltb (room ws) n) refl refl e

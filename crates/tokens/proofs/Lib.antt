@@ -1,4 +1,4 @@
-pub mod Arms
+pub mod Halves
 pub mod Forms
 pub mod Places
 pub mod Storing
@@ -7,5 +7,4 @@ pub mod Parts
 pub mod Back
 pub mod Checking
 pub mod Rows
-pub mod Tabling
 mod Examples
