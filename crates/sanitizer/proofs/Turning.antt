@@ -19,7 +19,7 @@ use borrow.Author.Tests.{eq-eqb, ne_eqb, le-ltb, lt-ltb}
 use Rattle.tokens.specs.Kinds as kind
 use Rattle.tokens.specs.Slots.{bare, room, slot_at, stored, tokens_in, Left}
 use Rattle.tokens.specs.declared.slot.Slot.{Slot}
-use Rattle.tokens.proofs.Storing.{length-tokens, left_stored, left_same, left_then, slot_other}
+use Rattle.tokens.proofs.Storing.{length-tokens, left_stored, left_then, slot_other}
 use Rattle.sanitizer.specs.declared.arms.State.{State}
 use Rattle.sanitizer.specs.declared.arms.State.TheVariants.{Default}
 use Rattle.sanitizer.specs.declared.arms.Does.{Does}
