@@ -9,6 +9,7 @@ use crate::kind::Kind;
 impl Kind {
     // Empty for a kind that has none.
     #[tactic(auto, unfolding(crate::specs::Texts::text_of, crate::specs::Texts::texts))]
+    #[inline(always)]
     pub fn text(self) -> &'static [u8]
         ensures { result.now ≡ text_of (number self) }
     {
@@ -100,6 +101,7 @@ impl Kind {
 // The fixed text of a kind by its number: empty for a number that no kind has.
 // Stays: what may not change: `fixed_text`, which docs/PROMISES.md names, takes any number.
 #[tactic(auto, using(crate::proofs::Rows::text_none))]
+#[inline(always)]
 pub fn fixed_text(kind: u32) -> &'static [u8]
     ensures { result.now ≡ text_of kind }
 {

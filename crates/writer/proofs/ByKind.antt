@@ -1,5 +1,5 @@
 -- The text of a token by its kind.
--- text_quoted, _marked, _unknown, _fixed   token_text by the tests of the kind
+-- text_quoted, _marked, _unknown, _fixed, _low   token_text by the tests of the kind
 -- below_or          one number is below another, or not
 -- content_small, token_small   how long a slice and a token's text can be
 -- formed_scalar     a well-formed Unknown holds at most U+10FFFF
@@ -12,7 +12,7 @@ use Prim.Native.Nat.{ℕ, ◌+◌, ◌≤◌, ◌<◌}
 use native.Mathlib.Omega.{arith}
 use lib.Dec.{eqb, ltb}
 use lib.ListN.{length, length-append, length-take, length-drop}
-use borrow.Author.Tests.{eq-eqb, ne_eqb, ltb-true, ltb-false}
+use borrow.Author.Tests.{eq-eqb, ne_eqb, ltb-true, ltb-false, lt-leb}
 use Rattle.chars.specs.Utf8.{is_scalar, encode}
 use Rattle.chars.proofs.Bytes.{and_l, scalar_beyond}
 use Rattle.chars.proofs.Whole.{encode_1, encode_2, encode_3, encode_4}
@@ -21,7 +21,7 @@ use Rattle.tokens.specs.Kinds as kind
 use Rattle.tokens.specs.Formed.{carries_offsets, well_formed}
 use Rattle.tokens.specs.Content.{content}
 use Rattle.tokens.specs.Texts.{text_of}
-use Rattle.tokens.proofs.Forms.{formed_unknown}
+use Rattle.tokens.proofs.Forms.{formed_unknown, carries_low}
 use Rattle.tokens.proofs.Parts.{content-within, content_back, content_beyond}
 use Rattle.tokens.proofs.Rows.{text_small}
 use Rattle.writer.specs.Written.{slice_of, token_text}
@@ -42,6 +42,10 @@ module _ (text : List ℕ) (t : Slot) where
   pub text_fixed : kind.is_quoted t.kind ≡ false → carries_offsets t.kind ≡ false → (t.kind ≡ kind.Unknown → ⊥) → token_text text t ≡ text_of t.kind
   unfolding token_text
   text_fixed q c n = simp (q, c, ne_eqb t.kind kind.Unknown n)
+
+  pub text_low : t.kind < kind.Other → token_text text t ≡ text_of t.kind
+  unfolding kind.is_quoted
+  text_low h = text_fixed (simp (lt-leb kind.Backticked t.kind (omega arith))) (carries_low t.kind (omega arith) (omega arith)) (omega arith)
 
 -- ---- how long
 pub below_or : (a b : ℕ) → (a < b) ⊎ (b ≤ a)

@@ -4,7 +4,7 @@
 -- put_one     one byte is stored
 -- put_then    one copy behind another
 -- put_onto    a copy behind a text that lies over the front
--- grown_as, grown_then   the same of a page
+-- grown_as, grown_none, grown_then   the same of a page
 -- three_length   the length of three parts
 -- Assumes nothing.
 use mathlib.Core.Path.{◌≡◌, refl, ap, sym, ◌∙◌}
@@ -66,6 +66,10 @@ module _ (w out : List ℕ) {s : List ℕ} {r : ℕ} {out' : List ℕ} where
 
 pub three_length : (a b c : List ℕ) → length (a ++ b ++ c) ≡ length a + length b + length c
 three_length a b c = simp length-append
+
+-- a page that nothing is written on
+pub grown_none : (p : Page) → Grown p [] p
+grown_none p = record { put = put_none p.out.now p.at; long = refl; same = refl }
 
 -- a page that grows, and grows on
 module _ {p q : Page} {s t : List ℕ} where

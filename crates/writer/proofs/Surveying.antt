@@ -1,18 +1,34 @@
 -- One pass over a token list: which tokens may not be written.
+-- faulty_first, _second   a token of a kind before Other, by its two numbers
 -- or-le, or_same    the first place that passes one of two tests
 -- faulty_none, faulty-cuts   no token is faulty; none is malformed
 -- Assumes nothing.
-use mathlib.Core.Path.{◌≡◌, refl, ap}
-use mathlib.Core.Bool.{Bool, true, false, cond, ◌||◌}
+use mathlib.Core.Path.{◌≡◌, refl, ap, ◌∙◌}
+use mathlib.Core.Bool.{Bool, true, false, cond, not, ◌||◌, ◌&&◌, or-false}
 use mathlib.Core.List.{List, [], ◌∷◌}
-use Prim.Native.Nat.{ℕ, suc, ◌≤◌}
+use Prim.Native.Nat.{ℕ, suc, ◌≤◌, ◌<◌}
 use native.Mathlib.Omega.{arith}
+use lib.Dec.{eqb}
 use lib.ListN.{length}
+use borrow.Author.Tests.{eq-eqb, ne_eqb}
 use Rattle.tokens.specs.declared.slot.Slot.{Slot}
-use Rattle.tokens.specs.Formed.{malformed, first_place}
+use Rattle.tokens.specs.Kinds as kind
+use Rattle.tokens.specs.Formed.{carries_offsets, malformed, first_place}
+use Rattle.tokens.proofs.Forms.{carries_low, formed_plain}
 use Rattle.tokens.proofs.Places.{place_le}
 use Rattle.writer.specs.Written.{cuts}
 use Rattle.writer.specs.Survey.{faulty}
+
+module _ (text : List ℕ) (t : Slot) (h : t.kind < kind.Other) where
+  plain : faulty text t ≡ not (eqb t.first 0 && eqb t.second 0)
+  unfolding faulty cuts
+  plain = simp (formed_plain t (omega arith) (omega arith), carries_low t.kind (omega arith) (omega arith), or-false)
+
+  pub faulty_first : (t.first ≡ 0 → ⊥) → faulty text t ≡ true
+  faulty_first n = plain ∙ simp (ne_eqb t.first 0 n)
+
+  pub faulty_second : t.first ≡ 0 → faulty text t ≡ not (eqb t.second 0)
+  faulty_second z = plain ∙ simp (eq-eqb t.first 0 z)
 
 -- ---- the list
 module _ (p q : Slot → Bool) where

@@ -19,19 +19,17 @@ impl Page<'_> {
         ensures { Grown self.old bytes.now self.new }
     {
         let end = self.at + bytes.len();
-        if let [byte] = bytes {
-            self.out[self.at] = *byte;
-            self.at = end;
-            return;
+        match bytes {
+            [] => {}
+            [byte] => self.out[self.at] = *byte,
+            _ => self.out[self.at..end].copy_from_slice(bytes),
         }
-        self.out[self.at..end].copy_from_slice(bytes);
         self.at = end;
     }
 
     // A scalar value in UTF-8, as RFC 3629 writes it. It is rare, and apart from the frequent texts the loop that writes them stays small.
     // Stays: what may not change: must-fail/utf8_width.edit holds the widths told apart here, and `char::encode_utf8` says nothing of the buffer that it filled.
     #[tactic(auto, using(chars::proofs::Whole::encode_1, chars::proofs::Whole::encode_2, chars::proofs::Whole::encode_3, chars::proofs::Whole::encode_4))]
-    #[inline(never)]
     pub fn push_char(&mut self, c: u32)
         requires { (c < 0x110000) × (self.old.at + length (encode c) ≤ length self.old.out.now) }
         ensures { Grown self.old (encode c) self.new }

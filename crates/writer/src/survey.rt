@@ -10,15 +10,24 @@ ghost use Rattle.writer.specs.Survey.{faulty, Surveyed};
 use crate::cut::is_cut;
 use crate::token::token_len;
 use tokens::formed::{first_malformed, is_well_formed};
+use tokens::kind::Kind;
 use tokens::place::Place;
 use tokens::refusal::Refusal;
 use tokens::slot::{Slot, slot_at};
 
-// Whether a token is not well formed or cuts a character.
+
+// The first kind that carries offsets: those before it are the most frequent.
+// Stays: the C interface lends slots as words, and `survey` is asked of slots that hold any number.
+pub(crate) const OTHER: u32 = Kind::Other as u32;
+
+// Whether a token is not well formed or cuts a character. The kinds before Other first, which are the most frequent.
 #[tactic(auto, unfolding(crate::specs::Survey::faulty))]
 fn is_faulty(text: &[u8], slot: Slot) -> bool
     ensures { result ≡ faulty text.now slot }
 {
+    if slot.kind < OTHER {
+        return slot.first != 0 || slot.second != 0;
+    }
     !is_well_formed(slot) || is_cut(text, slot)
 }
 

@@ -6,7 +6,7 @@ use lib.ListN.{length, length-append}
 use Rattle.tokens.specs.Kinds.{is_quoted}
 use Rattle.chars.proofs.Rfc.{width-encode}
 use Rattle.tokens.proofs.Rows.{text_small}
-use Rattle.writer.proofs.ByKind.{text_quoted, text_marked, text_unknown, text_fixed, content_small}
+use Rattle.writer.proofs.ByKind.{text_quoted, text_marked, text_unknown, text_fixed, text_low, content_small}
 use Rattle.writer.proofs.token.token_len.Goals as goal
 
 pub overflow_add-result : goal.overflow_add-result
@@ -47,3 +47,6 @@ returns c =
     let x = c.args in
     rw (text_fixed x.text.now x.slot (sym c.is_quoted.ensures ∙ c.if-is_quoted.false) (sym c.carries_offsets.ensures ∙ c.if-carries_offsets.false) c.if-slot-eq-UNKNOWN.false)
     (ap length c.fixed_text-mark.ensures)
+
+pub returns-then-slot-lt-OTHER : goal.returns-then-slot-lt-OTHER
+returns-then-slot-lt-OTHER c = let x = c.args in rw (text_low x.text.now x.slot (omega arith)) (ap length c.fixed_text-mark.ensures)
