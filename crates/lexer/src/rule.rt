@@ -1,4 +1,5 @@
 // Which rule reads at an offset. Document 01, "lexer.rs": the first that fits.
+// Stays: a text and an offset apart, here and in all below: what may not change: the clauses of `rule_at` count offsets into the whole text.
 ghost use Rattle.std.specs.Prelude.{◌≡◌, ◌≤◌, ◌<◌, eqb, length, drop};
 ghost use Rattle.chars.specs.Utf8.{chars};
 ghost use Rattle.chars.specs.Class.{numeric};
@@ -118,6 +119,7 @@ fn slash_rule(text: &[u8], next: Offset) -> Rule
 }
 
 // Any ASCII character.
+// Stays: no plainer with `mark_of` in front: an arm for each byte, in the Rust's order, is what is read beside it.
 fn ascii_rule(text: &[u8], next: Offset, b: u8, state: State) -> Rule
     requires whole { Whole text.now next.0 }
     requires b_bound { b < 0x80 }

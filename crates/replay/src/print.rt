@@ -1,5 +1,5 @@
 // An answer as a line: its six numbers, then every word of the slots lent, then every byte of the output lent, in hexadecimal.
-// Stays: a place beside the page, as in `put_hex` (crate frames), which all of these call.
+// Stays: a place beside the page: what may not change: `put_hex` (crate frames), by which `put_bytes` prints, takes both.
 ghost use Rattle.std.specs.Prelude.{◌≡◌, ◌+◌, ◌*◌, ◌≤◌, length};
 
 use frames::hex::put_hex;

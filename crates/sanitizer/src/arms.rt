@@ -1,5 +1,5 @@
 // The sanitiser's table: its states, its 32 arms by number, and what each does. Document 01, "sanitizer.rs"; specs/Arms.antt has the arms in
-// the order of the Rust's `match`. Here the kind is looked at first, so that an arm is found by two small matches.
+// the order of the Rust's `match`. Here the kind is looked at first, and in its arm the state.
 ghost use Rattle.std.specs.Prelude.{◌≡◌};
 ghost use Rattle.tokens.specs.Named.{number};
 ghost use Rattle.sanitizer.specs.Arms.{arm_of, arm};
@@ -22,7 +22,7 @@ pub enum State {
 }
 
 // What an arm does at a place.
-// Stays: what may not change: an enum and no closure, as the table of specs/Arms.antt names for each arm what it does.
+// Stays: what may not change: an enum and no closure, as the table `rules` of specs/Arms.antt names for each arm what it does.
 #[derive(Clone, Copy)]
 pub enum Does {
     // Goes on in the same state.
@@ -42,6 +42,7 @@ pub enum Does {
 }
 
 // An arm: its number, 1 to 32, and what it does.
+// Stays: a number: what may not change: `arm` of specs/Arms.antt has the arms by their place in the Rust's `match`.
 #[derive(Clone, Copy)]
 pub struct Arm(pub usize, pub Does);
 

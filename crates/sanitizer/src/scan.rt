@@ -1,5 +1,6 @@
 // Looking ahead and about in a list of tokens, with nothing changed: the two scans of the Rust's sanitiser, to the close of a scope and to
 // the end of the rows of a collapse, apart from what they blank. Document 01, "sanitizer.rs"; specs/Scans.antt.
+// Stays: `slots` and `count` apart: the C interface lends both.
 ghost use Rattle.std.specs.Prelude.{◌≡◌, true, ◌≤◌, ◌<◌};
 ghost use Rattle.tokens.specs.Slots.{room, slot_at, tokens_in};
 ghost use Rattle.sanitizer.specs.Scans.{is_close, close_at, rows_at};

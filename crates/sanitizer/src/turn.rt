@@ -1,4 +1,5 @@
 // One turn of the sanitiser: the arm that takes the token at a place, carried out. Document 01, "sanitizer.rs"; specs/Run.antt, specs/Leaves.antt.
+// Stays: `slots` and `count` apart: the C interface lends both.
 ghost use Rattle.std.specs.Prelude.{◌≡◌, ◌≤◌, ◌<◌, ◌+◌};
 ghost use Rattle.tokens.specs.Kinds as kinds;
 ghost use Rattle.tokens.specs.Named.{number};

@@ -1,5 +1,5 @@
 // Where a scan ends: one function for each stop rule that the Rust hands to `scan_until`.
-// Stays: a text and an offset apart, and no rest of the text: what may not change: the contracts count offsets into the whole text.
+// Stays: a text and an offset apart, and no rest of the text: what may not change: the clause of `word_end`, as of the others, counts offsets into the whole text.
 ghost use Rattle.std.specs.Prelude.{◌≡◌, ◌+◌, ◌≤◌, ◌<◌, length, drop};
 ghost use Rattle.std.specs.List.{take_while};
 ghost use Rattle.chars.specs.Steps.{offset};

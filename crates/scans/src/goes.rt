@@ -66,7 +66,7 @@ impl StopRule for Word {
     ghost stop = { Stop.Word };
 
     // Letters first, then digits: so the most frequent take the fewest tests.
-    // Stays: tried and slower, a word of 200 letters in 660 ns by `matches!` and 142 so, short ones in 29 ns by `else` and 27 so.
+    // Stays: no plainer by `matches!`, which would name the same four ranges; by it a word of 200 letters takes 660 ns, and 142 so.
     fn ascii_goes_on(b: u8) -> bool {
         if b'a' <= b {
             return b <= b'z';

@@ -14,7 +14,7 @@ fn is_of(c: u8, a: u8, b: u8) -> bool
 }
 
 // Counted to the end and not up to the first: so sixteen bytes are compared at once.
-// Stays: tried and slower, 2,000 bytes in 2,240 ns by `filter` and `count`, in 577 by a `for` over an array of sixteen, in 166 by `fold`, and in 138 so.
+// Stays: no plainer by `fold`, which tests and counts each byte alike (2,000 bytes in 166 ns, so in 138); `filter` and `count` take 2,240, a third of the Rust's time.
 fn plain_block(text: &[u8], at: usize, a: u8, b: u8) -> bool
     requires { at + 16 ≤ length text.now }
     ensures { result ≡ true → NoneOf a b text.now at (at + 16) }
@@ -28,7 +28,7 @@ fn plain_block(text: &[u8], at: usize, a: u8, b: u8) -> bool
     others == 16
 }
 
-// Stays: its stride is sixteen, and over `as_chunks` it was slower, as above.
+// Stays: no plainer by `as_chunks`: the blocks would be counted, and sixteen times their number added to the offset, which `at` is already.
 fn over_blocks(text: &[u8], from: usize, a: u8, b: u8) -> usize
     requires { from ≤ length text.now }
     ensures { (from ≤ result) × (result ≤ length text.now) × NoneOf a b text.now from result }

@@ -1,5 +1,6 @@
 // Hayrumble's public face: lib.rs in the Rust. A statement is read into tokens, the tokens are sanitised, and what is left is written as
 // text; `sanitize_string` does the three in one call. Document 01, "Refusal numbers", says which call refuses what, in which order.
+// Stays: wrappers and no `pub use`: what may not change: the theorems `lex_once`, `content_once` and others (crate demands) are of the functions here.
 #![tactic(auto)]
 
 ghost use Rattle.tokens.specs.Content.{HandsOut};

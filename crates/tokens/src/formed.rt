@@ -57,6 +57,7 @@ pub fn is_well_formed(slot: Slot) -> bool
 }
 
 // The place of the first slot that is not well formed, where there is one.
+// Stays: `slots` and `count` apart: the C interface lends both.
 pub fn first_malformed(slots: &[u32], count: usize) -> Option<Place>
     requires { count ≤ room slots.now }
     ensures { result ≡ place_below count (first_place malformed (tokens_in slots.now count)) }

@@ -12,6 +12,7 @@ use tokens::kind::Kind;
 const LONGEST: usize = 9;
 
 // A letter of a text, in lower case; 0 past its end.
+// Stays: 0 and no Option: what may not change: `key_of` of specs/Known.antt reads 0 there.
 fn letter(text: &[u8], m: usize) -> u8
     ensures { result ≡ get_or (map lower text.now) m 0 }
 {
@@ -19,7 +20,7 @@ fn letter(text: &[u8], m: usize) -> u8
 }
 
 // The length of a text and its first two letters.
-// Stays: tried and slower, `KNOWN.iter().find(..)`: 43 ns a word for 25; a `match` of the text itself: as fast, and the proof left 101 branches open.
+// Stays: tried: a `match` of the text itself is as fast, and its proof did not close (101 branches); `KNOWN.iter().find(..)` takes a name 42 ns for 16 (docs/SPEED.md).
 fn key_of(text: &[u8]) -> u32
     requires { length text.now ≤ 9 }
     ensures { result ≡ key_of (map lower text.now) }

@@ -1,5 +1,6 @@
 // Printed by tools/guesses from table.rt: the table as the lookup keeps it. A text's length and first two letters are its key, which no other row of its
 // section has.
+// Stays: no plainer as one function: three tables that differ in their rows, each with a clause of its own.
 #![tactic(auto, unfolding(crate::specs::Known::guess_of, crate::specs::Known::rows_of, crate::specs::Known::words, crate::specs::Known::runs, crate::specs::Known::zeros))]
 
 ghost use Rattle.std.specs.Prelude.{◌≡◌};

@@ -13,7 +13,7 @@ use lib.ListN.{length}
 use borrow.Author.Tests.{eq-eqb, ne_eqb}
 use Rattle.tokens.specs.declared.slot.Slot.{Slot}
 use Rattle.tokens.specs.Kinds as kind
-use Rattle.tokens.specs.Formed.{carries_offsets, malformed, first_place}
+use Rattle.tokens.specs.Formed.{malformed, first_place}
 use Rattle.tokens.proofs.Forms.{carries_low, formed_plain}
 use Rattle.tokens.proofs.Places.{place_le}
 use Rattle.writer.specs.Written.{cuts}

@@ -27,8 +27,8 @@ impl Page<'_> {
         self.at = end;
     }
 
-    // A scalar value in UTF-8, as RFC 3629 writes it. It is rare, and apart from the frequent texts the loop that writes them stays small.
-    // Stays: what may not change: must-fail/utf8_width.edit holds the widths told apart here, and `char::encode_utf8` says nothing of the buffer that it filled.
+    // A scalar value in UTF-8, as RFC 3629 writes it.
+    // Stays: what may not change: the first clause takes any number below 0x110000, surrogates too, which no `char` is, so none of `char`'s methods.
     #[tactic(auto, using(chars::proofs::Whole::encode_1, chars::proofs::Whole::encode_2, chars::proofs::Whole::encode_3, chars::proofs::Whole::encode_4))]
     pub fn push_char(&mut self, c: u32)
         requires { (c < 0x110000) × (self.old.at + length (encode c) ≤ length self.old.out.now) }

@@ -15,7 +15,6 @@ use tokens::place::Place;
 use tokens::refusal::Refusal;
 use tokens::slot::{Slot, slot_at};
 
-
 // The first kind that carries offsets: those before it are the most frequent.
 // Stays: the C interface lends slots as words, and `survey` is asked of slots that hold any number.
 pub(crate) const OTHER: u32 = Kind::Other as u32;
@@ -39,6 +38,7 @@ pub struct Fault {
 }
 
 // The length of the whole text, or the first token that may not be written.
+// Stays: `slots` and `count` apart, as the C interface lends both; the text's limit, here, in `measure` and in `token_len`, is no plainer as a type of short texts.
 pub fn survey(text: &[u8], slots: &[u32], count: usize) -> Result<usize, Fault>
     requires { (length text.now ≤ limit) × (count ≤ limit) × (count ≤ room slots.now) }
     ensures { Surveyed text.now slots.now count result }
