@@ -41,6 +41,7 @@ fn part(kind: Kind, start: Offset, end: Offset) -> Slot
 }
 
 // Rule 1: the content without its quotes.
+// Stays: a reader for each rule, no plainer as one: they differ in the scan, the kind and where the slice begins, and each has the rule's own clause.
 fn read_quoted(text: &[u8], at: Offset, kind: Kind) -> Option<Taken>
     requires { Ascii text.now at.0 }
     ensures { result ≡ read_by (quoted (named.number kind)) text.now at.0 }
