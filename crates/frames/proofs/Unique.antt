@@ -6,11 +6,10 @@
 use contract.Lifetimes.{Lfts}
 use borrow.Fn.Kinds.{Dens, res_t, ended_of}
 use denote.Triple.Clauses.{AtExit}
-use mathlib.Core.Path.{◌≡◌, sym, ap, ◌∙◌}
+use mathlib.Core.Path.{◌≡◌, sym, ◌∙◌}
 use mathlib.Core.List.{List}
 use Prim.Native.Nat.{ℕ}
 use Rattle.frames.specs.declared.Frame.{Frame}
-use Rattle.frames.specs.declared.Work.{Work}
 use Rattle.frames.specs.Frames.{Leaves, FramesLine, Prints}
 use Rattle.frames.proofs.frame_line.Kinds as kinds
 use Rattle.frames.proofs.frame_line.Reads as reads
@@ -28,24 +27,18 @@ module _ {line text ws out : List ℕ} {t₁ w₁ o₁ t₂ w₂ o₂ : List ℕ
 pub prints_one : {line page : List ℕ} {at r₁ r₂ : ℕ} {p₁ p₂ : List ℕ} → Prints line page at r₁ p₁ → Prints line page at r₂ p₂ → (r₁ ≡ r₂) × (p₁ ≡ p₂)
 prints_one p q = (p.put.next ∙ sym q.put.next, p.put.left ∙ sym q.put.left)
 
--- what is lent, by its three buffers
-work_one : {v w : Work} → (v.text ≡ w.text) × (v.slots ≡ w.slots) × (v.out ≡ w.out) → v ≡ w
-work_one {v} {w} e =
-    ap (λ (t : List ℕ). record { text = t; slots = v.slots; out = v.out }) e.0
-    ∙ ap (λ (s : List ℕ). record { text = w.text; slots = s; out = v.out }) e.1
-    ∙ ap (λ (o : List ℕ). record { text = w.text; slots = w.slots; out = o }) e.2
-
 -- for whatever lifetimes and arguments: one result, and one content of what is lent: the text, the slots and the output
-pub frame_unique : (κs : Lfts 2) (a : Dens κs kinds.ps) (r₁ r₂ : (res_t kinds.r κs).Denot) (s₁ s₂ : AtExit (ended_of 2 kinds.ps kinds.r) κs)
+pub frame_unique : (κs : Lfts 3) (a : Dens κs kinds.ps) (r₁ r₂ : (res_t kinds.r κs).Denot) (s₁ s₂ : AtExit (ended_of 3 kinds.ps kinds.r) κs)
     → reads.Post κs a r₁ s₁ → reads.Post κs a r₂ s₂
-    → (r₁ ≡ r₂) × (s₁.1.0.now ≡ s₂.1.0.now)
-frame_unique κs a r₁ r₂ s₁ s₂ p q = let f = frames_one p q in (f.0, work_one (f.1, f.2, f.3))
+    → (r₁ ≡ r₂) × (s₁.1.0.now.text.now ≡ s₂.1.0.now.text.now) × (s₁.1.0.now.slots.now ≡ s₂.1.0.now.slots.now) × (s₁.1.0.now.out.now ≡ s₂.1.0.now.out.now)
+frame_unique κs a r₁ r₂ s₁ s₂ p q = frames_one p.0 q.0
 
 -- one count, and one content of what is lent and of the page
-pub print_unique : (κs : Lfts 3) (a : Dens κs print-kinds.ps) (r₁ r₂ : (res_t print-kinds.r κs).Denot) (s₁ s₂ : AtExit (ended_of 3 print-kinds.ps print-kinds.r) κs)
+pub print_unique : (κs : Lfts 4) (a : Dens κs print-kinds.ps) (r₁ r₂ : (res_t print-kinds.r κs).Denot) (s₁ s₂ : AtExit (ended_of 4 print-kinds.ps print-kinds.r) κs)
     → print-reads.Post κs a r₁ s₁ → print-reads.Post κs a r₂ s₂
-    → (r₁ ≡ r₂) × (s₁.1.0.now ≡ s₂.1.0.now) × (s₁.1.1.0.now ≡ s₂.1.1.0.now)
+    → (r₁ ≡ r₂) × (s₁.1.0.now.text.now ≡ s₂.1.0.now.text.now) × (s₁.1.0.now.slots.now ≡ s₂.1.0.now.slots.now) × (s₁.1.0.now.out.now ≡ s₂.1.0.now.out.now)
+    × (s₁.1.1.0.now ≡ s₂.1.1.0.now)
 print_unique κs a r₁ r₂ s₁ s₂ p q =
-    let l = leaves_one p.1 q.1 in
+    let l = leaves_one p.1.0 q.1.0 in
     let f = prints_one p.0 q.0 in
-    (f.0, work_one l, f.1)
+    (f.0, l.0, l.1, l.2, f.1)

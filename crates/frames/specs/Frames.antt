@@ -10,6 +10,7 @@ use Rattle.sql_lexer.specs.Promise.{shape, string_answer, string_slots}
 use Rattle.frames.specs.Hex.{first_not_hex, hex_bytes, hex_text}
 use Rattle.frames.specs.declared.line.BadLine.{BadLine}
 use Rattle.frames.specs.declared.Frame.{Frame}
+use Rattle.frames.specs.declared.Work.{Work}
 
 -- the most characters of a line
 abbrev pub line_limit : ℕ
@@ -69,6 +70,12 @@ pub record Leaves (line text ws out text' ws' out' : List ℕ) : Type 0 where
   pub output : out' ≡ onto (frame_of line).shape out
   pub statement : text' ≡ afterwards (check_line line) (onto (hex_bytes line) text) text
   pub slots : ws' ≡ afterwards (check_line line) (string_slots pinned (hex_bytes line) ws) ws
+
+-- what is lent is lent still: the same three buffers
+pub record SameBuffers (before after : Work) : Type 0 where
+  pub text : after.text.ghost_name ≡ before.text.ghost_name
+  pub slots : after.slots.ghost_name ≡ before.slots.ghost_name
+  pub out : after.out.ghost_name ≡ before.out.ghost_name
 
 -- the answer to a line, and what it leaves
 pub record FramesLine (line text ws out : List ℕ) (r : Frame) (text' ws' out' : List ℕ) : Type 0 where

@@ -1,7 +1,7 @@
 // Bytes as they come, in a room of N: a line that is read, a page that frames are collected in.
 ghost use Rattle.std.specs.Prelude.{◌≡◌, ◌+◌, ◌≤◌, [], ◌++◌, length};
 ghost use Rattle.frames.specs.Filled.{Keeps};
-ghost use Rattle.frames.specs.Frames.{frame_of, printed, longest};
+ghost use Rattle.frames.specs.Frames.{frame_of, Leaves, printed, longest, SameBuffers};
 
 use crate::{Work, print_frame};
 use std::marker::Model;
@@ -59,7 +59,9 @@ impl Filled<65536> {
     // Prints the frame of a line behind what the page has.
     pub fn print(&mut self, line: &[u8], work: &mut Work)
         requires { length self.old + longest ≤ 65536 }
-        ensures { self.new ≡ self.old ++ printed (frame_of line.now) }
+        ensures printed { self.new ≡ self.old ++ printed (frame_of line.now) }
+        ensures left { Leaves line.now work.old.text.now work.old.slots.now work.old.out.now work.new.text.now work.new.slots.now work.new.out.now }
+        ensures same { SameBuffers work.old work.new }
     {
         self.count = print_frame(line, work, &mut self.bytes, self.count);
     }

@@ -1,9 +1,9 @@
 // From a line of hexadecimal to its frame, and the frame as the line that is printed. Document 01, "The program".
 #![tactic(auto)]
 
-ghost use Rattle.std.specs.Prelude.{◌≡◌, List, ℕ, ◌+◌, ◌*◌, ◌≤◌, ◌<◌, length, take};
+ghost use Rattle.std.specs.Prelude.{◌≡◌, List, ℕ, ◌+◌, ◌*◌, ◌≤◌, ◌<◌, length};
 ghost use Rattle.tokens.specs.Answers.{refused, refusal};
-ghost use Rattle.frames.specs.Frames.{read_status, framed, in_numbers, FramesText, FramesLine, Leaves, printed, shown_over, longest, Prints};
+ghost use Rattle.frames.specs.Frames.{read_status, framed, in_numbers, FramesText, FramesLine, Leaves, printed, shown_over, longest, Prints, SameBuffers};
 ghost use Rattle.writer.specs.Promise.{Put};
 
 use crate::hex::{decode, put_head, put_hex};
@@ -17,10 +17,10 @@ pub mod line;
 
 // What is lent for a line: room for its statement, for 4,096 tokens and for the shape.
 #[derive(Drop)]
-pub struct Work {
-    pub text: [u8; 8192],
-    pub slots: [u32; 12288],
-    pub out: [u8; 16384],
+pub struct Work<'a> {
+    pub text: &'a mut [u8; 8192],
+    pub slots: &'a mut [u32; 12288],
+    pub out: &'a mut [u8; 16384],
 }
 
 // A frame: the status byte, the stop offset or the detail, and how many bytes of the output are the shape.
@@ -65,16 +65,13 @@ impl From<Refusal> for Frame {
     }
 }
 
-// The frame of a statement, the first `count` bytes of the text.
-// Stays: a count beside the text; what may not change: `FramesLine` and `frame_unique` name every byte of it, which a type of filled bytes hides.
-fn frame_text(work: &mut Work, count: usize) -> Frame
-    requires { count ≤ length work.old.text }
-    ensures text_kept { work.new.text ≡ work.old.text }
-    ensures value { FramesText (take count work.old.text) work.old.slots work.old.out result work.new.slots work.new.out }
+// The frame of a statement.
+fn frame_text(text: &[u8], slots: &mut [u32; 12288], out: &mut [u8; 16384]) -> Frame
+    ensures { FramesText text.now slots.old out.old result slots.new out.new }
 {
-    match sanitize_string(&work.text[..count], &mut work.slots, &mut work.out) {
+    match sanitize_string(text, slots, out) {
         Ok(figures) => Frame {
-            status: read_status(figures.stop.0, count),
+            status: read_status(figures.stop.0, text.len()),
             number: figures.stop.0,
             length: figures.length,
         },
@@ -84,12 +81,16 @@ fn frame_text(work: &mut Work, count: usize) -> Frame
 
 // The frame of a line: the shape lies over the front of the output.
 pub fn frame_line(line: &[u8], work: &mut Work) -> Frame
-    ensures { FramesLine line.now work.old.text work.old.slots work.old.out result work.new.text work.new.slots work.new.out }
+    ensures value { FramesLine line.now work.old.text.now work.old.slots.now work.old.out.now result work.new.text.now work.new.slots.now work.new.out.now }
+    ensures same { SameBuffers work.old work.new }
 {
     match check_line(line) {
         Ok(()) => {
-            let count = decode(line, &mut work.text);
-            frame_text(work, count)
+            let count = decode(line, work.text);
+            // What is written is lent first, then what is read.
+            let slots = &mut *work.slots;
+            let out = &mut *work.out;
+            frame_text(&work.text[..count], slots, out)
         }
         Err(BadLine(detail)) => refused_frame(8, detail),
     }
@@ -111,8 +112,9 @@ fn put_frame(page: &mut [u8], at: usize, shown: Frame, out: &[u8]) -> usize
 pub fn print_frame(line: &[u8], work: &mut Work, page: &mut [u8; 65536], at: usize) -> usize
     requires { at + longest ≤ 65536 }
     ensures printed { Prints line.now page.old at result page.new }
-    ensures left { Leaves line.now work.old.text work.old.slots work.old.out work.new.text work.new.slots work.new.out }
+    ensures left { Leaves line.now work.old.text.now work.old.slots.now work.old.out.now work.new.text.now work.new.slots.now work.new.out.now }
+    ensures same { SameBuffers work.old work.new }
 {
     let shown = frame_line(line, work);
-    put_frame(page, at, shown, &work.out)
+    put_frame(page, at, shown, work.out)
 }

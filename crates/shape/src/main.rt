@@ -27,14 +27,14 @@ struct Stand {
 
 // What is held between two characters: the line so far, the frames that are not written yet, what is lent for a line, and how the run stands.
 #[derive(Drop)]
-struct Held {
+struct Held<'a> {
     line: Line,
     page: Page,
-    work: Work,
+    work: Work<'a>,
     stand: Stand,
 }
 
-impl Held {
+impl Held<'_> {
     // What is held once the writes took so many bytes of the page.
     fn after_write(&mut self, took: usize)
         ensures { self.new ≡ wrote self.old took }
@@ -137,13 +137,16 @@ impl Held {
 fn run(stdin: Stdin, stdout: Stdout) -> Stand
     ensures { Runs result }
 {
+    let mut text = [0; 8192];
+    let mut slots = [0; 12288];
+    let mut out = [0; 16384];
     let mut held = Held {
         line: Line::new(),
         page: Page::new(),
         work: Work {
-            text: [0; 8192],
-            slots: [0; 12288],
-            out: [0; 16384],
+            text: &mut text,
+            slots: &mut slots,
+            out: &mut out,
         },
         stand: Stand {
             sent: 0,

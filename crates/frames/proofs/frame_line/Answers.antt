@@ -13,14 +13,14 @@ decode-count-requires c =
     let p = line_passes line (sym (ap checked c.in-Ok.is) ∙ c.check_line.ensures) in
     (omega (arith, p.0), p.1)
 
-pub frame_text-requires : goal.frame_text-requires
-frame_text-requires c =
+pub shared_ref_as_front-frame_text : goal.shared_ref_as_front-frame_text
+shared_ref_as_front-frame_text c =
     let line = c.args.line.now in
     let p = line_passes line (sym (ap checked c.in-Ok.is) ∙ c.check_line.ensures) in
     omega (arith, p.0, c.decode-count.ensures.next, bytes_few line)
 
-pub returns-in-Ok : goal.returns-in-Ok
-returns-in-Ok c = rw c.frame_text.ensures.text_kept (fine-line _ _ _ _ (sym (ap checked c.in-Ok.is) ∙ c.check_line.ensures) c.decode-count.ensures c.frame_text.ensures.value)
+pub returns-in-Ok-clause-value : goal.returns-in-Ok-clause-value
+returns-in-Ok-clause-value c = fine-line _ _ _ _ (sym (ap checked c.in-Ok.is) ∙ c.check_line.ensures) c.decode-count.ensures c.frame_text.ensures
 
-pub returns-in-Err : goal.returns-in-Err
-returns-in-Err c = bad_line_lem _ _ _ _ (sym (ap checked c.in-Err.is) ∙ c.check_line.ensures) (c.refused_frame.ensures (hex_bytes c.args.line.now))
+pub returns-in-Err-clause-value : goal.returns-in-Err-clause-value
+returns-in-Err-clause-value c = bad_line_lem _ _ _ _ (sym (ap checked c.in-Err.is) ∙ c.check_line.ensures) (c.refused_frame.ensures (hex_bytes c.args.line.now))
