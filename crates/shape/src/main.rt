@@ -62,6 +62,7 @@ impl Held<'_> {
     }
 
     // Prints the frame of the line that is held.
+    // Stays: the page's room is asked here, in `step` and in `end_input`: no plainer as a type: `make_room` gives it, and `make_room` and `step` change the same value.
     fn end_line(&mut self)
         requires { length self.old.page + longest ≤ page_room }
         ensures line { self.new.line ≡ [] }
