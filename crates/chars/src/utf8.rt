@@ -7,7 +7,7 @@ ghost use Rattle.chars.specs.Steps.{scalar_of, size_of, following, fits_three, f
 use crate::offset::Offset;
 
 // What stands at an offset: a character, as its scalar value and the offset after it; a byte at which none starts; or nothing.
-// Stays: three ways, no plainer as an Option or a Result: callers of step_at tell a bad byte from the end.
+// Stays: three ways, no plainer as an Option or a Result: `hay_step` of the C interface tells a bad byte from the end.
 #[derive(Clone, Copy)]
 pub enum Step {
     Char(u32, Offset),

@@ -5,7 +5,7 @@ ghost use Rattle.frames.specs.Hex.{hex_read, first_not_hex, hex_bytes, hex_digit
 ghost use Rattle.frames.specs.Frames.{big_endian};
 
 // The value of a character; none for one that is not hexadecimal.
-// Stays: ranges, and no method of the library: what may not change: `hex_value` of specs/Hex.antt, which these are.
+// Stays: no plainer by `to_digit`, which takes a `char` and answers a u32.
 #[tactic(auto, unfolding(crate::specs::Hex::hex_value))]
 pub fn hex_value(c: u8) -> Option<u8>
     ensures { result ≡ hex_read c }
@@ -46,7 +46,7 @@ pub fn decode(line: &[u8], text: &mut [u8]) -> usize
 }
 
 // The character of a value below 16.
-// Stays: no method of the library: what may not change: `hex_digit` of specs/Hex.antt, which this is.
+// Stays: no plainer by `from_digit`, which answers an Option of a `char`.
 #[tactic(auto, unfolding(crate::specs::Hex::hex_digit))]
 fn hex_digit(v: u8) -> u8
     requires { v < 16 }

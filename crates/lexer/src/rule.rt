@@ -119,7 +119,7 @@ fn slash_rule(text: &[u8], next: Offset) -> Rule
 }
 
 // Any ASCII character.
-// Stays: no plainer with `mark_of` in front: an arm for each byte, in the Rust's order, is what is read beside it.
+// Stays: no plainer with `mark_of` in front: an arm for each byte is what is read beside the Rust.
 fn ascii_rule(text: &[u8], next: Offset, b: u8, state: State) -> Rule
     requires whole { Whole text.now next.0 }
     requires b_bound { b < 0x80 }

@@ -66,7 +66,7 @@ impl StopRule for Word {
     ghost stop = { Stop.Word };
 
     // Letters first, then digits: so the most frequent take the fewest tests.
-    // Stays: no plainer by `matches!`, which would name the same four ranges; by it a word of 200 letters takes 660 ns, and 142 so.
+    // Stays: tried: by `matches!` a word of 200 letters takes 660 ns for 142, and short statements then miss half the Rust's time, the goal of docs/SPEED.md.
     fn ascii_goes_on(b: u8) -> bool {
         if b'a' <= b {
             return b <= b'z';

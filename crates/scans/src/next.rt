@@ -14,7 +14,7 @@ fn is_of(c: u8, a: u8, b: u8) -> bool
 }
 
 // Counted to the end and not up to the first: so sixteen bytes are compared at once.
-// Stays: no plainer by `fold`, which tests and counts each byte alike (2,000 bytes in 166 ns, so in 138); `filter` and `count` take 2,240, a third of the Rust's time.
+// Stays: tried: by `filter` and `count` 2,000 bytes take 2,240 ns for 138, and quoted texts miss the 0.04 of the Rust's time that docs/SPEED.md has; `fold` is no plainer.
 fn plain_block(text: &[u8], at: usize, a: u8, b: u8) -> bool
     requires { at + 16 ≤ length text.now }
     ensures { result ≡ true → NoneOf a b text.now at (at + 16) }

@@ -20,7 +20,7 @@ pub struct Slot {
 const WORDS: usize = 3;
 
 // A token that carries nothing, by its kind's number.
-// Stays: what may not change: `bare` takes any number, as a slot may hold any; `Kind::bare` takes a kind.
+// Stays: what may not change: `bare`, a public function, takes any number; `Kind::bare` takes a kind.
 pub fn bare(kind: u32) -> Slot
     ensures { result ≡ bare kind }
 {

@@ -38,7 +38,7 @@ pub struct Fault {
 }
 
 // The length of the whole text, or the first token that may not be written.
-// Stays: `slots` and `count` apart, as the C interface lends both; the text's limit, here, in `measure` and in `token_len`, is no plainer as a type of short texts.
+// Stays: `slots` and `count` apart, as the C interface lends both; the text's limit, asked here, in `measure` and in `token_len`, is no plainer as a type: `check_text` gives it, and each slice would be of the text inside.
 pub fn survey(text: &[u8], slots: &[u32], count: usize) -> Result<usize, Fault>
     requires { (length text.now ≤ limit) × (count ≤ limit) × (count ≤ room slots.now) }
     ensures { Surveyed text.now slots.now count result }

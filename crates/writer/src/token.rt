@@ -20,6 +20,7 @@ use tokens::texts::fixed_text;
 const UNKNOWN: u32 = Kind::Unknown as u32;
 
 // The kind of what was blanked.
+// Stays: the C interface lends slots as words, and this is compared with the word.
 const NONE: u32 = Kind::None as u32;
 
 // The part of the statement that a token's offsets name.
