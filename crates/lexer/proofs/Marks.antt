@@ -1,23 +1,28 @@
--- The marks: which characters they are, and that a mark is read as the rules have it.
+-- The marks: which characters they are, what a table of them finds, and that a mark is read as the rules have it.
+-- charted        a table whose entries, one after the other, have the kinds of a definition, finds them at each number
 -- each_mark      a character is one of the twelve marks, or none
 -- mark_high      nothing above ASCII is a mark
 -- mark_small, mark_state   a mark's kind is a small number, after which the state is as it was
 -- mark_rule, mark_read     the rules choose the mark, whatever follows it and whatever was read before, and read it
 -- Assumes nothing.
 use mathlib.Core.Path.{◌≡◌, refl, sym, ap, ◌∙◌}
-use mathlib.Core.Bool.{Bool, true, false}
-use mathlib.Core.List.{List, ◌∷◌}
-use Prim.Native.Nat.{ℕ, ◌+◌, ◌≤◌, ◌<◌}
+use mathlib.Core.Bool.{Bool, true, false, ◌&&◌}
+use mathlib.Core.List.{List, [], ◌∷◌}
+use Rattle.std.specs.Prelude.{Option, None, Some}
+use Prim.Native.Nat.{ℕ, zero, suc, ◌+◌, ◌≤◌, ◌<◌}
 use Prim.Native.Char.{code}
 use native.Mathlib.Decide.{dec_lt}
 use native.Mathlib.Omega.{arith}
-use lib.Dec.{eqb}
-use lib.ListN.{get_or, drop}
-use borrow.Author.Tests.{ne_eqb, eqb-true, eqb-false}
+use native.Mathlib.Nat.{add-zero}
+use lib.Dec.{eqb, leb}
+use lib.ListN.{get_or, drop, length}
+use borrow.Author.Tests.{ne_eqb, eqb-true, eqb-false, leb-true}
+use Rattle.chars.proofs.Bytes.{and_l, and_r}
 use Rattle.chars.specs.Utf8.{chars}
 use Rattle.chars.specs.Steps.{offset}
 use Rattle.tokens.specs.Kinds as kind
 use Rattle.tokens.specs.Named as named
+use Rattle.tokens.specs.Named.{Finds}
 use Rattle.tokens.specs.declared.kind.Kind.{Kind}
 use Rattle.tokens.specs.declared.kind.Kind.TheVariants as the
 use Rattle.tokens.specs.Slots.{bare}
@@ -30,6 +35,31 @@ use Rattle.lexer.specs.Marks.{mark_of}
 use Rattle.lexer.specs.Read.{step_of, read_by, Ascii, taken}
 use Rattle.scans.proofs.Characters.{stepped_ascii}
 use Rattle.lexer.proofs.Steps.{read_at, single_read}
+
+-- ---- a table of kinds
+-- whether an entry has the kind of a number: none, where that is None
+abbrev has_kind : ℕ → Option Kind → Bool
+has_kind n None = eqb n kind.None
+has_kind n (Some k) = eqb (named.number k) n && leb 1 n
+
+-- whether the entries have the kinds that f has from k on
+abbrev pub charts : (ℕ → ℕ) → ℕ → List (Option Kind) → Bool
+charts f k [] = true
+charts f k (o ∷ os) = has_kind (f k) o && charts f (suc k) os
+
+kind_found : (n : ℕ) (o : Option Kind) → has_kind n o ≡ true → Finds n o
+kind_found n None e = eqb-true n kind.None e
+kind_found n (Some k) e = (eqb-true (named.number k) n (and_l (eqb (named.number k) n) (leb 1 n) e), leb-true 1 n (and_r (eqb (named.number k) n) (leb 1 n) e))
+
+found_from : (f : ℕ → ℕ) (k : ℕ) (table : List (Option Kind)) → charts f k table ≡ true → (j : ℕ) → j < length table → Finds (f (k + j)) (get_or table j None)
+found_from f k [] e j h = absurd (omega arith)
+found_from f k (o ∷ os) e zero h = rw (add-zero k) (kind_found (f k) o (and_l (has_kind (f k) o) (charts f (suc k) os) e))
+found_from f k (o ∷ os) e (suc j) h =
+    let shift : k + suc j ≡ suc k + j = omega arith in
+    rw shift (found_from f (suc k) os (and_r (has_kind (f k) o) (charts f (suc k) os) e) j (omega arith))
+
+pub charted : (f : ℕ → ℕ) (table : List (Option Kind)) → charts f 0 table ≡ true → (c : ℕ) → c < length table → Finds (f c) (get_or table c None)
+charted f table e c h = let start : 0 + c ≡ c = omega arith in rw start at (found_from f 0 table e c h)
 
 -- ---- which characters are marks
 -- a number is this one, or it is not

@@ -6,7 +6,7 @@ ghost use Rattle.scans.specs.Ways.{pinned};
 ghost use Rattle.scans.specs.Scans.{in_run, goes_on};
 ghost use Rattle.scans.specs.declared.goes.Stop.{Stop};
 
-use chars::class::{is_alphabetic, is_numeric};
+use chars::class::{common_script, is_alphabetic, is_numeric};
 
 // The stop rules that ask for a class of characters, as the definitions name them.
 #[derive(Clone, Copy)]
@@ -54,8 +54,9 @@ impl StopRule for Charset {
         b.is_ascii_alphanumeric()
     }
 
+    // The letters of common scripts first, which most words beyond ASCII are made of.
     fn goes_on(c: u32) -> bool {
-        is_alphabetic(c) || is_numeric(c)
+        common_script(c) || is_alphabetic(c) || is_numeric(c)
     }
 }
 
@@ -91,8 +92,9 @@ pub struct Number;
 impl StopRule for Number {
     ghost stop = { Stop.Number };
 
+    // Digits first.
     fn ascii_goes_on(b: u8) -> bool {
-        matches!(b, b'0'..=b'9' | b'.' | b'x' | b'X' | b'b' | b'B')
+        matches!(b, b'0'..=b'9') || matches!(b, b'.' | b'x' | b'X' | b'b' | b'B')
     }
 
     fn goes_on(c: u32) -> bool {
