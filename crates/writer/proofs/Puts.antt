@@ -4,7 +4,7 @@
 -- put_one     one byte is stored
 -- put_then    one copy behind another
 -- put_onto    a copy behind a text that lies over the front
--- grown_as, grown_none, grown_then   the same of a page
+-- grown_as, grown_none, grown_one, grown_then   the same of a page
 -- three_length   the length of three parts
 -- Assumes nothing.
 use mathlib.Core.Path.{◌≡◌, refl, ap, sym, ◌∙◌}
@@ -12,7 +12,7 @@ use mathlib.Core.List.{List, [], ◌∷◌, ◌++◌, append_assoc, append-nil}
 use Prim.Native.Nat.{ℕ, ◌+◌, ◌≤◌, ◌<◌}
 use native.Mathlib.Nat.{add_assoc, add-zero}
 use native.Mathlib.Numerals.{add-one}
-use lib.ListN.{length, take, drop, set, length-append, take-append-drop}
+use lib.ListN.{length, take, drop, set, length-append, length-set, take-append-drop}
 use lib.Seq.{set_split, take-append_seam, drop-append-add, drop-drop, length-take-le, take_at}
 use Rattle.writer.specs.Written.{onto}
 use Rattle.writer.specs.declared.copy.Page.{Page}
@@ -70,6 +70,10 @@ three_length a b c = simp length-append
 -- a page that nothing is written on
 pub grown_none : (p : Page) → Grown p [] p
 grown_none p = record { put = put_none p.out.now p.at; long = refl; same = refl }
+
+-- a byte that is stored
+pub grown_one : (p q : Page) (b : ℕ) → p.at < length p.out.now → q.out.now ≡ set p.out.now p.at b → q.at ≡ p.at + 1 → q.out.ghost_name ≡ p.out.ghost_name → Grown p (b ∷ []) q
+grown_one p q b h o a n = record { put = rw (o, a) (put_one p.out.now p.at b h); long = rw o (length-set p.out.now p.at b); same = n }
 
 -- a page that grows, and grows on
 module _ {p q : Page} {s t : List ℕ} where

@@ -1,5 +1,6 @@
 -- One pass over a token list: which tokens may not be written.
 -- faulty_first, _second   a token of a kind before Other, by its two numbers
+-- faulty_carries, -bare   a token that carries offsets, and one that carries none
 -- or-le, or_same    the first place that passes one of two tests
 -- faulty_none, faulty-cuts   no token is faulty; none is malformed
 -- Assumes nothing.
@@ -13,8 +14,8 @@ use lib.ListN.{length}
 use borrow.Author.Tests.{eq-eqb, ne_eqb}
 use Rattle.tokens.specs.declared.slot.Slot.{Slot}
 use Rattle.tokens.specs.Kinds as kind
-use Rattle.tokens.specs.Formed.{malformed, first_place}
-use Rattle.tokens.proofs.Forms.{carries_low, formed_plain}
+use Rattle.tokens.specs.Formed.{carries_offsets, well_formed, malformed, first_place}
+use Rattle.tokens.proofs.Forms.{carries_low, formed_carries, formed_plain}
 use Rattle.tokens.proofs.Places.{place_le}
 use Rattle.writer.specs.Written.{cuts}
 use Rattle.writer.specs.Survey.{faulty}
@@ -29,6 +30,15 @@ module _ (text : List ℕ) (t : Slot) (h : t.kind < kind.Other) where
 
   pub faulty_second : t.first ≡ 0 → faulty text t ≡ not (eqb t.second 0)
   faulty_second z = plain ∙ simp (eq-eqb t.first 0 z)
+
+module _ (text : List ℕ) (t : Slot) where
+  pub faulty_carries : carries_offsets t.kind ≡ true → faulty text t ≡ cuts text t
+  unfolding faulty
+  faulty_carries e = simp (formed_carries t e)
+
+  pub faulty-bare : carries_offsets t.kind ≡ false → faulty text t ≡ not (well_formed t)
+  unfolding faulty cuts
+  faulty-bare e = simp (e, or-false)
 
 -- ---- the list
 module _ (p q : Slot → Bool) where

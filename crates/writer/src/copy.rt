@@ -1,12 +1,24 @@
 // Copies into the lent output: what the Rust's growing `out` does by `push` and `push_str`.
-ghost use Rattle.std.specs.Prelude.{◌+◌, ◌≤◌, ◌<◌, length};
+ghost use Rattle.std.specs.Prelude.{◌≡◌, ◌+◌, ◌≤◌, ◌<◌, length};
 ghost use Rattle.chars.specs.Utf8.{encode};
+ghost use Rattle.writer.specs.Promise.{Put};
 
 // The lent output, and how many bytes of it are written.
 #[derive(Drop)]
 pub struct Page<'a> {
     pub out: &'a mut [u8],
     pub at: usize,
+}
+
+// Lays bytes behind the first `at` of the output. One by one: `copy_from_slice` would have who links the library bring `memmove`.
+fn lay(out: &mut [u8], at: usize, bytes: &[u8])
+    requires { at + length bytes.now ≤ length out.old }
+    ensures put { Put out.old at bytes.now (at + length bytes.now) out.new }
+    ensures long { length out.new ≡ length out.old }
+{
+    for (i, &byte) in bytes.iter().enumerate() {
+        out[at + i] = byte;
+    }
 }
 
 impl Page<'_> {
@@ -20,11 +32,31 @@ impl Page<'_> {
     {
         let end = self.at + bytes.len();
         match bytes {
-            [] => {}
             [byte] => self.out[self.at] = *byte,
-            _ => self.out[self.at..end].copy_from_slice(bytes),
+            _ => lay(self.out, self.at, bytes),
         }
         self.at = end;
+    }
+
+    // A part of the statement, whose length nothing is known of.
+    pub fn push_slice(&mut self, slice: &[u8])
+        requires { self.old.at + length slice.now ≤ length self.old.out.now }
+        ensures { Grown self.old slice.now self.new }
+    {
+        lay(self.out, self.at, slice);
+        self.at += slice.len();
+    }
+
+    // The mark before or after a slice: one byte or none, so that no loop stands beside the slice's.
+    #[tactic(auto, using(crate::proofs::Puts::grown_one, crate::proofs::Puts::grown_none))]
+    pub fn push_mark(&mut self, mark: &[u8])
+        requires { (length mark.now ≤ 1) × (self.old.at + length mark.now ≤ length self.old.out.now) }
+        ensures { Grown self.old mark.now self.new }
+    {
+        if let [byte] = mark {
+            self.out[self.at] = *byte;
+            self.at += 1;
+        }
     }
 
     // A scalar value in UTF-8, as RFC 3629 writes it.

@@ -9,7 +9,7 @@ ghost use Rattle.writer.specs.Survey.{faulty, Surveyed};
 
 use crate::cut::is_cut;
 use crate::token::token_len;
-use tokens::formed::{first_malformed, is_well_formed};
+use tokens::formed::{carries_offsets, first_malformed, is_well_formed};
 use tokens::kind::Kind;
 use tokens::place::Place;
 use tokens::refusal::Refusal;
@@ -20,14 +20,16 @@ use tokens::slot::{Slot, slot_at};
 pub(crate) const OTHER: u32 = Kind::Other as u32;
 
 // Whether a token is not well formed or cuts a character. The kinds before Other first, which are the most frequent.
-#[tactic(auto, unfolding(crate::specs::Survey::faulty))]
 fn is_faulty(text: &[u8], slot: Slot) -> bool
     ensures { result ≡ faulty text.now slot }
 {
     if slot.kind < OTHER {
         return slot.first != 0 || slot.second != 0;
     }
-    !is_well_formed(slot) || is_cut(text, slot)
+    if carries_offsets(slot.kind) {
+        return is_cut(text, slot);
+    }
+    !is_well_formed(slot)
 }
 
 // The first token that may not be written, and the length of the text before it.
