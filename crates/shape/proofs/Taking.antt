@@ -1,13 +1,14 @@
 -- One character taken.
 -- due_long      what is due does not depend on which characters a line over the limit holds
 -- due_lf, due_more   the clauses of due
--- takes_end     an LF: the frame is printed
--- takes_kept    any other character
--- begun, not_begun, ended_told   what the code tests at the end
+-- whole_ended, takes_end   an LF: the frame is printed
+-- due_kept, takes_kept     any other character
+-- ended_told    what the code tests at the end
+-- whole_begun   what is due of a line that the end of the input ends
 -- ends_line, ends_none   the end of the input, in a line and between two
 -- ends_cut      a read that failed: the line is left out
 -- Assumes nothing.
-use Rattle.std.proofs.Common.{◌≡◌, ℕ, suc, ◌<◌, ◌≤◌, Bool, true, false, cond, eqb, ltb, List, [], ◌∷◌, ◌++◌, length, sym, refl, ap, ◌∙◌, append_assoc, append-nil, arith, length-append, ltb-false, ltb-true, eqb-true, eq-eqb, ne_eqb}
+use Rattle.std.proofs.Common.{◌≡◌, ℕ, suc, ◌<◌, ◌≤◌, Bool, true, false, cond, eqb, ltb, List, [], ◌∷◌, ◌++◌, length, sym, refl, ap, ◌∙◌, append_assoc, append-nil, arith, length-append, ltb-false, ltb-true, eq-eqb, ne_eqb}
 use Prim.Native.Char.{code}
 use Rattle.frames.specs.Frames.{line_limit, frame_of, printed}
 use Rattle.frames.specs.Filled.{Keeps}
@@ -18,7 +19,7 @@ use Rattle.shape.specs.declared.input.Input.TheVariants.{Open, Ended, Failed}
 use Rattle.shape.specs.contracts.input.Input.{the_type}
 use denote.Enum.Bare.{sameb}
 use Rattle.shape.specs.Due.{at_stop, due}
-use Rattle.shape.specs.Fits.{Still, has_ended, Takes, Ends}
+use Rattle.shape.specs.Fits.{Still, has_ended, whole, Takes, Ends}
 
 -- two lines over the limit have one frame
 same_frame : (k l : List ℕ) → line_limit < length k → line_limit < length l → printed (frame_of k) ≡ printed (frame_of l)
@@ -52,35 +53,32 @@ due_more : (ended : Bool) (l : List ℕ) (c : ℕ) (cs : List ℕ) → (c ≡ 10
 unfolding due
 due_more ended l c cs e = simp (ne_eqb c 10 e)
 
+-- what is due after an LF, and after any other character
+pub whole_ended : (ended : Bool) (cs : List ℕ) (c : ℕ) (h r : Held) → c ≡ 10 → r.line ≡ [] → r.page ≡ h.page ++ printed (frame_of h.line) → whole ended r cs ≡ whole ended h (c ∷ cs)
+whole_ended ended cs c h r e z p =
+    let s : List ℕ = printed (frame_of h.line) in
+    ap (λ (l : List ℕ). r.page ++ due ended l cs) z
+    ∙ ap (λ (t : List ℕ). t ++ due ended [] cs) p
+    ∙ append_assoc h.page s (due ended [] cs)
+    ∙ ap (λ (t : List ℕ). h.page ++ t) (sym (due_lf ended h.line c cs e))
+
+pub due_kept : (ended : Bool) (cs : List ℕ) (c : ℕ) (line line' : List ℕ) → (c ≡ 10 → ⊥) → Keeps 16385 line c line' → due ended line' cs ≡ due ended line (c ∷ cs)
+due_kept ended cs c line line' n k =
+    go (ltb (length line) (suc line_limit)) (λ q. ltb-true (length line) (suc line_limit) q) (λ q. ltb-false (length line) (suc line_limit) q)
+    ∙ sym (due_more ended line c cs n)
+  where
+    go : (b : Bool) → (b ≡ true → length line < suc line_limit) → (b ≡ false → suc line_limit ≤ length line) → due ended line' cs ≡ due ended (line ++ (c ∷ [])) cs
+    go true lt le = ap (λ (t : List ℕ). due ended t cs) (k.kept (lt refl))
+    go false lt le =
+        ap (λ (t : List ℕ). due ended t cs) (k.full (le refl))
+        ∙ due_long ended cs line (line ++ (c ∷ [])) (omega (arith, le refl)) (omega (arith, le refl, length-append line (c ∷ [])))
+
 module _ {c : ℕ} {h r : Held} (still : Still h r) where
   pub takes_end : c ≡ 10 → r.line ≡ [] → r.page ≡ h.page ++ printed (frame_of h.line) → Takes c h r
-  takes_end e z p =
-      let s : List ℕ = printed (frame_of h.line) in
-      record {
-        still = still;
-        same = λ ended cs.
-            ap (λ (l : List ℕ). r.page ++ due ended l cs) z
-            ∙ ap (λ (t : List ℕ). t ++ due ended [] cs) p
-            ∙ append_assoc h.page s (due ended [] cs)
-            ∙ ap (λ (t : List ℕ). h.page ++ t) (sym (due_lf ended h.line c cs e));
-      }
+  takes_end e z p = record { still = still; same = λ ended cs. whole_ended ended cs c h r e z p }
 
   pub takes_kept : (c ≡ 10 → ⊥) → r.page ≡ h.page → Keeps (suc line_limit) h.line c r.line → Takes c h r
-  takes_kept n e k = record {
-    still = still;
-    same = λ ended cs.
-        ap (λ (p : List ℕ). p ++ due ended r.line cs) e
-        ∙ ap (λ (t : List ℕ). h.page ++ t)
-        (go ended cs (ltb (length h.line) (suc line_limit)) (λ q. ltb-true (length h.line) (suc line_limit) q) (λ q. ltb-false (length h.line) (suc line_limit) q)
-        ∙ sym (due_more ended h.line c cs n));
-  }
-    where
-      go : (ended : Bool) (cs : List ℕ) (b : Bool) → (b ≡ true → length h.line < suc line_limit) → (b ≡ false → suc line_limit ≤ length h.line)
-          → due ended r.line cs ≡ due ended (h.line ++ (c ∷ [])) cs
-      go ended cs true lt le = ap (λ (t : List ℕ). due ended t cs) (k.kept (lt refl))
-      go ended cs false lt le =
-          ap (λ (t : List ℕ). due ended t cs) (k.full (le refl))
-          ∙ due_long ended cs h.line (h.line ++ (c ∷ [])) (omega (arith, le refl)) (omega (arith, le refl, length-append h.line (c ∷ [])))
+  takes_kept n e k = record { still = still; same = λ ended cs. ap (λ (p : List ℕ). p ++ due ended r.line cs) e ∙ ap (λ (t : List ℕ). h.page ++ t) (due_kept ended cs c h.line r.line n k) }
 
 -- a line that has begun is ended by the end of the input
 due_end : (l : List ℕ) → 0 < length l → due true l [] ≡ printed (frame_of l)
@@ -93,28 +91,18 @@ due_cut : (l : List ℕ) → due false l [] ≡ []
 unfolding due
 due_cut l = refl
 
--- a line has begun or not, and the input has ended or not, as the code tests it
-pub begun : (l : List ℕ) → eqb (length l) 0 ≡ false → 0 < length l
-begun [] e = cc
-begun (c ∷ cs) e = omega arith
-
-pub not_begun : (l : List ℕ) → eqb (length l) 0 ≡ true → length l ≡ 0
-not_begun l e = eqb-true (length l) 0 e
-
+-- the input has ended or not, as the code tests it
 pub ended_told : (i : Input) → sameb the_type i Ended ≡ has_ended i
 ended_told Open = refl
 ended_told Ended = refl
 ended_told Failed = refl
 
+pub whole_begun : (h : Held) → has_ended h.stand.input ≡ true → 0 < length h.line → whole (has_ended h.stand.input) h [] ≡ h.page ++ printed (frame_of h.line)
+whole_begun h e some = ap (λ (b : Bool). h.page ++ due b h.line []) e ∙ ap (λ (t : List ℕ). h.page ++ t) (due_end h.line some)
+
 module _ {h r : Held} (still : Still h r) where
   pub ends_line : has_ended h.stand.input ≡ true → 0 < length h.line → r.page ≡ h.page ++ printed (frame_of h.line) → Ends h r
-  ends_line e some p = record {
-    still = still;
-    all =
-        p
-        ∙ ap (λ (t : List ℕ). h.page ++ t) (sym (due_end h.line some))
-        ∙ ap (λ (b : Bool). h.page ++ due b h.line []) (sym e);
-  }
+  ends_line e some p = record { still = still; all = p ∙ sym (whole_begun h e some) }
 
 module _ {h : Held} where
   -- nothing is due: the page is as it was

@@ -74,6 +74,7 @@ impl Held<'_> {
     }
 
     // Takes one character of the input.
+    #[tactic(auto, using(std::proofs::lemmas::Grind::common_steps, crate::proofs::Taking::whole_ended, crate::proofs::Taking::due_kept))]
     fn step(&mut self, c: u8)
         requires { length self.old.page + longest ≤ page_room }
         ensures { Takes c self.old self.new }
@@ -114,6 +115,7 @@ impl Held<'_> {
     }
 
     // No more is read. The end of the input ends a line that has begun; where a read failed, a line that is not finished is left out.
+    #[tactic(auto, using(crate::proofs::Taking::ended_told, crate::proofs::Taking::whole_begun, crate::proofs::Taking::ends_none, crate::proofs::Taking::ends_cut))]
     fn end_input(&mut self)
         requires { length self.old.page + longest ≤ page_room }
         ensures { Ends self.old self.new }
