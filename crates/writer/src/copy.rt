@@ -10,7 +10,8 @@ pub struct Page<'a> {
     pub at: usize,
 }
 
-// Lays bytes behind the first `at` of the output. One by one: `copy_from_slice` would have who links the library bring `memmove`.
+// Lays bytes behind the first `at` of the output, one by one: of `copy_from_slice` the compiler makes a call of `memmove`, which whoever links the
+// library would have to bring.
 fn lay(out: &mut [u8], at: usize, bytes: &[u8])
     requires { at + length bytes.now ≤ length out.old }
     ensures put { Put out.old at bytes.now (at + length bytes.now) out.new }
@@ -24,7 +25,7 @@ fn lay(out: &mut [u8], at: usize, bytes: &[u8])
 impl Page<'_> {
     ghost use Rattle.writer.specs.Survey.{Grown};
 
-    // Bytes, one after the other. Half of all texts have one byte, which is stored.
+    // A text: one of one byte, as `=` has, is stored.
     #[tactic(auto, using(crate::proofs::Puts::put_one))]
     pub fn push(&mut self, bytes: &[u8])
         requires { self.old.at + length bytes.now ≤ length self.old.out.now }
@@ -47,7 +48,7 @@ impl Page<'_> {
         self.at += slice.len();
     }
 
-    // The mark before or after a slice: one byte or none, so that no loop stands beside the slice's.
+    // One byte or none: None, the marks, and what stands before and after a slice. No loop is compiled for it.
     #[tactic(auto, using(crate::proofs::Puts::grown_one, crate::proofs::Puts::grown_none))]
     pub fn push_mark(&mut self, mark: &[u8])
         requires { (length mark.now ≤ 1) × (self.old.at + length mark.now ≤ length self.old.out.now) }
