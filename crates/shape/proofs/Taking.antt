@@ -53,7 +53,7 @@ due_more : (ended : Bool) (l : List ℕ) (c : ℕ) (cs : List ℕ) → (c ≡ 10
 unfolding due
 due_more ended l c cs e = simp (ne_eqb c 10 e)
 
--- what is due after an LF, and after any other character
+-- what is due after an LF, and after any other character; 16385 is `suc line_limit`, as the goal of `step` has it
 pub whole_ended : (ended : Bool) (cs : List ℕ) (c : ℕ) (h r : Held) → c ≡ 10 → r.line ≡ [] → r.page ≡ h.page ++ printed (frame_of h.line) → whole ended r cs ≡ whole ended h (c ∷ cs)
 whole_ended ended cs c h r e z p =
     let s : List ℕ = printed (frame_of h.line) in

@@ -1,8 +1,9 @@
 // The fixed text of each kind, in capitals for words except `x 0x b 0b n`: fixed byte strings, copied out when tokens are written.
 // In the Rust, the arms of writer.rs. They are tied to the table of specs/Texts.antt.
-ghost use Rattle.std.specs.Prelude.{◌≡◌, List, ℕ, map};
+ghost use Rattle.std.specs.Prelude.{◌≡◌, List, ℕ, suc, map};
 ghost use Rattle.std.specs.Borrow.{Bor};
 ghost use Rattle.std.specs.List.{range_with_len};
+ghost use Rattle.tokens.specs.Kinds as kinds;
 ghost use Rattle.tokens.specs.Named.{number};
 ghost use Rattle.tokens.specs.Texts.{text_of};
 
@@ -184,8 +185,9 @@ static TEXTS: [&[u8]; KINDS] = [
     b"",
 ];
 
+// The table, which the proof holds to the definition's: the text of each kind from None to Unknown.
 fn texts() -> &'static [&'static [u8]; KINDS]
-    ensures { map (λ (text : Bor (List ℕ)). text.now) result.now ≡ map text_of (range_with_len 0 84) }
+    ensures { map (λ (text : Bor (List ℕ)). text.now) result.now ≡ map text_of (range_with_len kinds.None (suc kinds.Unknown)) }
 {
     &TEXTS
 }

@@ -2,13 +2,13 @@
 use mathlib.Core.Path.{◌≡◌, sym, ap, ◌∙◌}
 use mathlib.Core.Bool.{true, false}
 use native.Mathlib.Omega.{arith}
-use lib.ListN.{length, length-append}
+use lib.ListN.{length}
 use Rattle.tokens.specs.Kinds.{is_quoted}
 use Rattle.tokens.specs.Formed.{carries_offsets}
 use Rattle.tokens.specs.Texts.{text_of}
 use Rattle.tokens.proofs.Rows.{text_mark}
-use Rattle.writer.specs.Written.{slice_of, token_text}
-use Rattle.writer.proofs.Puts.{three_length, grown_as, grown_none, grown_then}
+use Rattle.writer.specs.Written.{slice_of}
+use Rattle.writer.proofs.Puts.{three_length, grown_as, grown_then}
 use Rattle.writer.proofs.ByKind.{text_quoted, text_marked, text_slice, text_scalar, text_fixed, text_low, formed_scalar, unquoted, quote_one, mark_small, carried_room}
 use Rattle.writer.proofs.token.put_token.Goals as goal
 
